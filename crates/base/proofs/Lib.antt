@@ -1,0 +1,4 @@
+pub mod Filling
+pub mod Tab
+pub mod Tested
+pub mod Xor
