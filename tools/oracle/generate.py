@@ -18,6 +18,8 @@ from records import (
     MIC_DATA,
     MIC_JOIN_ACCEPT,
     MIC_JOIN_REQUEST,
+    READ,
+    READ_CLEAR_JOIN_ACCEPT,
     SESSION_KEYS,
 )
 
@@ -69,6 +71,53 @@ def sealed(source, keys, first, counter, fopts=0, port=None, payload=0, high=Non
     head = bytes([first]) + source.bytes(4) + bytes([fctrl]) + (counter % 65536).to_bytes(2, "little")
     tail = b"" if port is None else bytes([port]) + source.bytes(payload)
     return oracle.seal_data(head + source.bytes(fopts) + tail, *keys, counter)
+
+
+# ---- read: places and numbers -----------------------------------------------------------------------------------
+
+
+def each_first_byte(source):
+    """Each value of byte 0, at lengths that suit some type and at those that suit none."""
+    for first in range(256):
+        for length in (12, 17, 23, 33) if first % 4 == 0 else (source.pick((11, 12, 17, 23)),):
+            yield READ, [bytes([first]) + source.bytes(4) + bytes([source.byte() & 0xF0]) + source.bytes(length - 6)]
+
+
+def each_length(source):
+    """Each length from 0 to 40 and around 255, for each type; every byte but the first is drawn."""
+    for mtype, length in itertools.product(range(8), (*range(41), 254, 255, 256, 257)):
+        if length <= 40 or mtype in (0, 2):
+            yield READ, [(bytes([mtype << 5]) + source.bytes(length))[:length]]
+
+
+def each_header_length(source):
+    """Around the end of the header: FOpts, port and payload come and go; port 0 and another."""
+    for fopts, past in itertools.product(range(16), range(-1, 4)):
+        for port in (0, 1):
+            head = bytes([source.pick(FIRST_BYTES)]) + source.bytes(4) + bytes([(source.byte() & 0xF0) + fopts])
+            tail = source.bytes(2 + fopts) + bytes([port]) + source.bytes(8)
+            yield READ, [(head + tail)[: 12 + fopts + past]]
+
+
+def clear_join_accepts(source):
+    for length, list_type in itertools.product((17, 33), (0, 1, 2, 255)):
+        for first in (0x20, 0x3C):
+            clear = bytes([first]) + source.bytes(length - 1)
+            yield READ_CLEAR_JOIN_ACCEPT, [clear[:28] + bytes([list_type]) + clear[29:] if length == 33 else clear]
+    for first, length in ((0, 0), (0x21, 17), (0xC0, 17), (0x20, 18), (0x00, 23), (0x40, 17), (0x20, 256)):
+        yield READ_CLEAR_JOIN_ACCEPT, [(bytes([first]) + bytes(length))[:length]]
+
+
+def read():
+    source = Source(SEED + 3)
+    yield READ, [DOCUMENTED_JOIN_REQUEST]
+    yield READ, [DOCUMENTED_JOIN_ACCEPT]
+    yield READ, [DOCUMENTED_DATA]
+    yield READ, [bytes.fromhex("4004030201000500 00aa11223344")]
+    yield from each_first_byte(source)
+    yield from each_length(source)
+    yield from each_header_length(source)
+    yield from clear_join_accepts(source)
 
 
 # ---- opened: MIC tests, decryption, session keys ---------------------------------------------------------------
@@ -453,7 +502,7 @@ def amended():
     yield from refused_openings(source)
 
 
-LISTS = {"opened": opened, "built": built, "amended": amended}
+LISTS = {"read": read, "opened": opened, "built": built, "amended": amended}
 
 
 def bodies_of(cases):

@@ -144,6 +144,49 @@ def amended(*arguments):
     return bytes([number]) + bytes(numbers) + frame
 
 
+def maybe_byte(value):
+    return bytes(2) if value is None else bytes([1, value])
+
+
+def shown_data(frame, data):
+    """Numbers, flags and places of a data frame."""
+    flags = bytes([data.adr, data.adr_ack_req, data.ack, data.f_pending])
+    payload = bytes(3) if data.payload is None else bytes([2 if data.commands else 1, *data.payload])
+    numbers = bytes([data.fctrl]) + flags + data.fcnt.to_bytes(2, "little")
+    fields = frame[slice(*data.dev_addr)] + numbers + bytes(data.fopts) + maybe_byte(data.port) + payload
+    return fields + frame[slice(*data.mic)]
+
+
+def shown(frame):
+    """The reader's answer."""
+    try:
+        reading = oracle.read(frame)
+    except Refused as refusal:
+        return bytes([refusal.number])
+    head = bytes([0, reading.mtype])
+    if isinstance(reading, oracle.JoinRequest):
+        return head + frame[1:]
+    if isinstance(reading, oracle.JoinAccept):
+        return head + bytes([reading.length])
+    return head + shown_data(frame, reading)
+
+
+def shown_clear(frame):
+    """What a clear join-accept says."""
+    try:
+        oracle.read_as(oracle.JoinAccept, frame)
+    except Refused as refusal:
+        return bytes([refusal.number])
+    said = oracle.read_clear_join_accept(frame)
+    parts = [frame[slice(*p)] for p in (said.app_nonce, said.net_id, said.dev_addr, said.mic)]
+    numbers = bytes([said.dl_settings, said.rx_delay])
+    if said.channels is not None:
+        listed = b"\1" + b"".join(c.to_bytes(4, "little") for c in said.channels)
+    else:
+        listed = b"\0" if said.masks is None else b"\2" + frame[slice(*said.masks)]
+    return b"\0" + b"".join(parts) + numbers + listed
+
+
 # ---- Kinds of call: fields in their order, and the answer ----------------------------------------------------------
 
 MIC_JOIN_REQUEST, MIC_JOIN_ACCEPT, MIC_DATA = 1, 2, 3
@@ -151,6 +194,7 @@ DECRYPT_DATA, DECRYPT_DATA_CHECKED, DECRYPT_JOIN_ACCEPT, DECRYPT_JOIN_ACCEPT_CHE
 SESSION_KEYS = 8
 BUILD_JOIN_REQUEST, BUILD_JOIN_ACCEPT, BUILD_DATA = 9, 10, 11
 AMEND = 12
+READ, READ_CLEAR_JOIN_ACCEPT = 13, 14
 
 KINDS = {
     MIC_JOIN_REQUEST: ([KEY, Bytes()], tested(oracle.test_mic_join_request)),
@@ -171,6 +215,8 @@ KINDS = {
         built(build_data),
     ),
     AMEND: ([KEY, KEY, WORD, Bytes(), Amendments()], amended),
+    READ: ([Bytes()], shown),
+    READ_CLEAR_JOIN_ACCEPT: ([Bytes()], shown_clear),
 }
 
 
