@@ -1,8 +1,12 @@
-"""Writes the case files and their right answers to out/. The same seed gives the same files."""
+"""Writes the case files and their right answers: the same seed, the same files.
+
+Run: python3 tools/oracle/generate.py [seed [folder]]; the recorded files are those of the default seed, in out/.
+"""
 
 import itertools
 import pathlib
 import random
+import sys
 
 import oracle
 import records
@@ -108,8 +112,8 @@ def clear_join_accepts(source):
         yield READ_CLEAR_JOIN_ACCEPT, [(bytes([first]) + bytes(length))[:length]]
 
 
-def read():
-    source = Source(SEED + 3)
+def read(seed):
+    source = Source(seed + 3)
     yield READ, [DOCUMENTED_JOIN_REQUEST]
     yield READ, [DOCUMENTED_JOIN_ACCEPT]
     yield READ, [DOCUMENTED_DATA]
@@ -271,8 +275,8 @@ def other_types_and_lengths(source):
     yield from calls_on(source, b"")
 
 
-def opened():
-    source = Source(SEED)
+def opened(seed):
+    source = Source(seed)
     yield from documented()
     yield from data_of_each_length(source)
     yield from data_with_fopts(source)
@@ -377,8 +381,8 @@ def documented_builds():
     yield BUILD_DATA, [0, 1, bytes(4), 0, 0, None, bytes([2, 3, 5]), b"", network, application, 255]
 
 
-def built():
-    source = Source(SEED + 1)
+def built(seed):
+    source = Source(seed + 1)
     yield from documented_builds()
     yield from built_join_requests(source)
     yield from built_join_accepts(source)
@@ -490,8 +494,8 @@ def refused_openings(source):
     yield held.call([], counter=low)
 
 
-def amended():
-    source = Source(SEED + 2)
+def amended(seed):
+    source = Source(seed + 2)
     documented = [(i, c) for i, c in enumerate(b"HELLO")]
     yield AMEND, [DOCUMENTED_NETWORK_KEY, DOCUMENTED_APPLICATION_KEY, 1, DOCUMENTED_DATA, documented]
     yield from first_last_and_outside(source)
@@ -509,15 +513,15 @@ def bodies_of(cases):
     return [records.write_body(kind, arguments) for kind, arguments in cases]
 
 
-def main():
-    out = pathlib.Path(__file__).parent / "out"
+def main(seed=SEED, folder=pathlib.Path(__file__).parent / "out"):
+    out = pathlib.Path(folder)
     out.mkdir(exist_ok=True)
     for name, cases in LISTS.items():
-        bodies = bodies_of(cases())
+        bodies = bodies_of(cases(int(seed)))
         (out / f"{name}.stdin").write_bytes(records.write_file(bodies))
         (out / f"{name}.stdout").write_text(records.answers(bodies))
         print(f"{name}: {len(bodies)} cases")
 
 
 if __name__ == "__main__":
-    main()
+    main(*sys.argv[1:])

@@ -275,7 +275,7 @@ def build_join_request(app_eui, dev_eui, dev_nonce, app_key, room):
 
 
 def channel_list(channels):
-    """CFList: five frequencies of three bytes, low byte first, then its type 0 (LoRaWAN 1.0, 6.2.4)."""
+    """CFList: five frequencies of three bytes, low byte first, then its type 0 (LoRaWAN 1.0, 6.2.5 and 7.1.4)."""
     filled = list(channels) + [0] * (5 - len(channels))
     return b"".join(c.to_bytes(3, "little") for c in filled) + bytes([0])
 

@@ -139,12 +139,12 @@ class Files(unittest.TestCase):
         out = pathlib.Path(generate.__file__).parent / "out"
         for name, cases in generate.LISTS.items():
             bodies = records.read_file((out / f"{name}.stdin").read_bytes())
-            self.assertEqual(bodies, generate.bodies_of(cases()))
+            self.assertEqual(bodies, generate.bodies_of(cases(generate.SEED)))
             self.assertEqual((out / f"{name}.stdout").read_text(), records.answers(bodies))
 
     def test_reading_a_body_undoes_writing_it(self):
         for cases in generate.LISTS.values():
-            for kind, arguments in cases():
+            for kind, arguments in cases(generate.SEED):
                 self.assertEqual(records.read_body(records.write_body(kind, arguments)), (kind, arguments))
 
 
