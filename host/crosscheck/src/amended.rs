@@ -1,0 +1,58 @@
+//! Amendments, which the crate does not have: its parts judge the opening, and its reader the amended frame.
+
+use crate::opened::parsed_data;
+use crate::records::Amend;
+use crate::{Judge, Judged};
+use lorawan::keys::AES128;
+use lorawan::parser::DataHeader;
+
+const INVALID_MIC: u8 = 5;
+const COUNTER_MISMATCH: u8 = 14;
+const OFFSET_OUTSIDE: u8 = 15;
+
+fn opening_number<F: Judge>(call: &Amend) -> u8 {
+    let mut frame = call.frame.clone();
+    match parsed_data::<F>(&mut frame) {
+        Err(number) => number,
+        Ok(data) if data.fhdr().fcnt() != call.counter as u16 => COUNTER_MISMATCH,
+        Ok(data) if !data.validate_mic(&call.network, call.counter) => INVALID_MIC,
+        Ok(_) => 0,
+    }
+}
+
+/// The opening's number; if it is refused the rest of the answer too, for nothing may change then.
+pub fn opening<F: Judge>(call: &Amend) -> Judged {
+    match opening_number::<F>(call) {
+        _ if call.frame.len() > 255 => Judged::Outside,
+        0 => Judged::Number(0),
+        number => {
+            let refused = vec![OFFSET_OUTSIDE; call.amendments.len()];
+            Judged::Whole([&[number], &refused[..], &call.frame].concat())
+        }
+    }
+}
+
+/// The frame without its MIC, its payload decrypted by the crate, if the crate finds the MIC good.
+fn opened<F: Judge>(frame: &[u8], network: &AES128, application: &AES128, counter: u32) -> Option<Vec<u8>> {
+    let mut frame = frame.to_vec();
+    parsed_data::<F>(&mut frame).ok()?.decrypt_if_mic_ok(network, application, counter).ok()?;
+    frame.truncate(frame.len() - 4);
+    Some(frame)
+}
+
+/// An accepted opening: the crate opens the amended frame too, and finds in it the original with the accepted
+/// amendments made to its payload, which is all that follows the port.
+pub fn read_back<F: Judge>(call: &Amend, answer: &[u8]) -> bool {
+    let (numbers, frame) = answer[1..].split_at(call.amendments.len());
+    let open = |frame: &[u8]| opened::<F>(frame, &call.network, &call.application, call.counter);
+    let (Some(mut before), Some(after)) = (open(&call.frame), open(frame)) else { return false };
+    let start = 9 + usize::from(call.frame[5] % 16);
+    for (&(offset, value), &number) in call.amendments.iter().zip(numbers) {
+        match before.get_mut(start.saturating_add(offset as usize)) {
+            Some(byte) if number == 0 => *byte = value,
+            None if number == OFFSET_OUTSIDE => {}
+            _ => return false,
+        }
+    }
+    before == after
+}

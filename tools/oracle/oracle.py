@@ -1,0 +1,371 @@
+"""LoRaWAN 1.0 frames by the project's scope document and LoRaWAN 1.0, for making right answers.
+
+Nothing here is shared with the codec: the cipher and the MAC are OpenSSL's, the rest is written from the
+documents, plainly and without regard to speed. A frame is `bytes`; a call that the codec makes on a lent slice
+gives back the whole slice as it stands afterwards.
+"""
+
+from collections import namedtuple
+
+from cryptography.hazmat.primitives.ciphers import Cipher, algorithms, modes
+from cryptography.hazmat.primitives.cmac import CMAC
+
+# ---- Numbers that a caller may see -----------------------------------------------------------------------------
+
+ACCEPTED = 0
+INVALID_PAYLOAD = 1
+UNSUPPORTED_MAJOR_VERSION = 2
+INVALID_MESSAGE_TYPE = 3
+INVALID_DATA = 4
+INVALID_MIC = 5
+INVALID_KEY = 6
+BUFFER_TOO_SHORT = 7
+INVALID_CHANNEL_LIST = 8
+MAC_COMMAND_TOO_BIG_FOR_FOPTS = 9
+DATA_AND_MAC_COMMANDS_IN_PAYLOAD_NOT_ALLOWED = 10
+FRM_PAYLOAD_WITH_FPORT_ZERO = 11
+FRAME_TOO_LONG = 12
+FOPTS_LEN_SET = 13
+COUNTER_MISMATCH = 14
+OFFSET_OUTSIDE = 15
+
+FRAME_MAX = 255
+JOIN_REQUEST, JOIN_ACCEPT = 0, 1
+DATA_TYPES = (2, 3, 4, 5)
+
+
+class Refused(Exception):
+    """Ends a call with a number of the table."""
+
+    def __init__(self, number):
+        super().__init__(number)
+        self.number = number
+
+
+# ---- Cipher and MAC (FIPS 197, RFC 4493), by OpenSSL -------------------------------------------------------------
+
+
+def aes_encrypt(key, block):
+    """AES-128 encryption of one block."""
+    assert len(key) == 16 and len(block) == 16
+    step = Cipher(algorithms.AES(key), modes.ECB()).encryptor()
+    return step.update(block) + step.finalize()
+
+
+def aes_decrypt(key, block):
+    """AES-128 decryption of one block."""
+    assert len(key) == 16 and len(block) == 16
+    step = Cipher(algorithms.AES(key), modes.ECB()).decryptor()
+    return step.update(block) + step.finalize()
+
+
+def aes_cmac(key, message):
+    """The whole tag of 16 bytes."""
+    mac = CMAC(algorithms.AES(key))
+    mac.update(message)
+    return mac.finalize()
+
+
+def mic(key, message):
+    """The tag's first four bytes."""
+    return aes_cmac(key, message)[:4]
+
+
+def xor(a, b):
+    return bytes(x ^ y for x, y in zip(a, b))
+
+
+# ---- Reading -------------------------------------------------------------------------------------------------
+
+JoinRequest = namedtuple("JoinRequest", "mtype app_eui dev_eui dev_nonce mic")
+JoinAccept = namedtuple("JoinAccept", "mtype length")
+Data = namedtuple(
+    "Data",
+    "mtype header_length dev_addr fctrl fcnt fopts port payload commands uplink adr adr_ack_req ack f_pending mic",
+)
+Clear = namedtuple("Clear", "app_nonce net_id dev_addr dl_settings rx_delay channels masks mic")
+
+
+def read(frame):
+    """The reading of a frame: places as pairs (from, to), numbers as numbers. Refuses in the order 12, 1, 2, 3, 4."""
+    if len(frame) > FRAME_MAX:
+        raise Refused(FRAME_TOO_LONG)
+    if len(frame) < 12:
+        raise Refused(INVALID_PAYLOAD)
+    if frame[0] % 4 != 0:
+        raise Refused(UNSUPPORTED_MAJOR_VERSION)
+    mtype = frame[0] >> 5
+    if mtype > 5:
+        raise Refused(INVALID_MESSAGE_TYPE)
+    if mtype == JOIN_REQUEST:
+        return read_join_request(frame)
+    if mtype == JOIN_ACCEPT:
+        return read_join_accept(frame)
+    return read_data(frame)
+
+
+def read_join_request(frame):
+    if len(frame) != 23:
+        raise Refused(INVALID_DATA)
+    return JoinRequest(JOIN_REQUEST, (1, 9), (9, 17), (17, 19), (19, 23))
+
+
+def read_join_accept(frame):
+    if len(frame) not in (17, 33):
+        raise Refused(INVALID_DATA)
+    return JoinAccept(JOIN_ACCEPT, len(frame))
+
+
+def read_data(frame):
+    length = len(frame)
+    header = 7 + frame[5] % 16
+    if 5 + header > length:
+        raise Refused(INVALID_DATA)
+    mtype = frame[0] >> 5
+    uplink = mtype in (2, 4)
+    fctrl = frame[5]
+    port = frame[1 + header] if length > header + 6 else None
+    payload = None if length < header + 6 else (header + 2, length - 4)
+    return Data(
+        mtype=mtype,
+        header_length=header,
+        dev_addr=(1, 5),
+        fctrl=fctrl,
+        fcnt=frame[6] + 256 * frame[7],
+        fopts=(8, 1 + header),
+        port=port,
+        payload=payload,
+        commands=payload is not None and port == 0,
+        uplink=uplink,
+        adr=bool(fctrl & 0x80),
+        adr_ack_req=uplink and bool(fctrl & 0x40),
+        ack=bool(fctrl & 0x20),
+        f_pending=not uplink and bool(fctrl & 0x10),
+        mic=(length - 4, length),
+    )
+
+
+def read_clear_join_accept(frame):
+    """What a decrypted join-accept says; the frame is one that `read` accepts."""
+    channels = masks = None
+    if len(frame) == 33 and frame[28] == 0:
+        channels = [int.from_bytes(frame[13 + 3 * i : 16 + 3 * i], "little") for i in range(5)]
+    if len(frame) == 33 and frame[28] == 1:
+        masks = (13, 22)
+    return Clear((1, 4), (4, 7), (7, 11), frame[11], frame[12] % 16, channels, masks, (len(frame) - 4, len(frame)))
+
+
+def read_as(kind, frame):
+    """The reading, refused with 4 if it is of another kind."""
+    reading = read(frame)
+    if not isinstance(reading, kind):
+        raise Refused(INVALID_DATA)
+    return reading
+
+
+# ---- Helper blocks, MIC, key stream (LoRaWAN 1.0, 4.3.3 and 4.4) ---------------------------------------------------
+
+
+def helper_block(first, frame, counter, last):
+    direction = frame[0] >> 5 & 1
+    return bytes([first, 0, 0, 0, 0, direction]) + frame[1:5] + counter.to_bytes(4, "little") + bytes([0, last])
+
+
+def data_mic(network_key, counter, message):
+    """The MIC of a data message, which is the frame without its last four bytes."""
+    return mic(network_key, helper_block(0x49, message, counter, len(message)) + message)
+
+
+def key_stream(key, frame, counter, length):
+    blocks = (length + 15) // 16
+    stream = b"".join(aes_encrypt(key, helper_block(0x01, frame, counter, i + 1)) for i in range(blocks))
+    return stream[:length]
+
+
+def selected_key(port, network_key, application_key):
+    return network_key if port is None or port == 0 else application_key
+
+
+def crypt_payload(frame, reading, key, counter):
+    """The frame with its payload encrypted or decrypted, which is the same step."""
+    if reading.payload is None:
+        return frame
+    a, b = reading.payload
+    return frame[:a] + xor(frame[a:b], key_stream(key, frame, counter, b - a)) + frame[b:]
+
+
+def full_counter(counter, fcnt):
+    """The caller's high half and the frame's low half."""
+    return counter // 65536 * 65536 + fcnt
+
+
+# ---- MIC tests -----------------------------------------------------------------------------------------------
+
+
+def test_mic_join_request(app_key, frame):
+    read_as(JoinRequest, frame)
+    return frame[-4:] == mic(app_key, frame[:-4])
+
+
+def test_mic_clear_join_accept(app_key, frame):
+    read_as(JoinAccept, frame)
+    return frame[-4:] == mic(app_key, frame[:-4])
+
+
+def test_mic_data(network_key, counter, frame):
+    read_as(Data, frame)
+    return frame[-4:] == data_mic(network_key, counter, frame[:-4])
+
+
+# ---- Decryption ------------------------------------------------------------------------------------------------
+
+
+def decrypt_data(network_key, application_key, counter, frame):
+    """Plain decryption: reading, 6. A key that was not given is None."""
+    reading = read_as(Data, frame)
+    key = selected_key(reading.port, network_key, application_key)
+    if key is None:
+        raise Refused(INVALID_KEY)
+    return crypt_payload(frame, reading, key, full_counter(counter, reading.fcnt))
+
+
+def decrypt_data_checked(network_key, application_key, counter, frame):
+    """Checked decryption: reading, 5, 6."""
+    if not test_mic_data(network_key, counter, frame):
+        raise Refused(INVALID_MIC)
+    return decrypt_data(network_key, application_key, counter, frame)
+
+
+def each_block(step, key, frame):
+    """The frame with each 16-byte block from byte 1 put through AES."""
+    blocks = [step(key, frame[i : i + 16]) for i in range(1, len(frame), 16)]
+    return frame[:1] + b"".join(blocks)
+
+
+def decrypt_join_accept(app_key, frame):
+    read_as(JoinAccept, frame)
+    return each_block(aes_encrypt, app_key, frame)
+
+
+def decrypt_join_accept_checked(app_key, frame):
+    clear = decrypt_join_accept(app_key, frame)
+    if not test_mic_clear_join_accept(app_key, clear):
+        raise Refused(INVALID_MIC)
+    return clear
+
+
+# ---- Session keys (LoRaWAN 1.0, 6.2.5) ---------------------------------------------------------------------------
+
+
+def session_keys(app_key, dev_nonce, clear):
+    """Network and application session key from a clear join-accept."""
+    read_as(JoinAccept, clear)
+    rest = clear[1:4] + clear[4:7] + dev_nonce + bytes(7)
+    return aes_encrypt(app_key, bytes([1]) + rest), aes_encrypt(app_key, bytes([2]) + rest)
+
+
+# ---- Building ------------------------------------------------------------------------------------------------
+
+
+def build_join_request(app_eui, dev_eui, dev_nonce, app_key, room):
+    if room < 23:
+        raise Refused(BUFFER_TOO_SHORT)
+    message = bytes([JOIN_REQUEST << 5]) + app_eui + dev_eui + dev_nonce
+    return message + mic(app_key, message)
+
+
+def channel_list(channels):
+    """CFList: five frequencies of three bytes, low byte first, then its type 0 (LoRaWAN 1.0, 6.2.5 and 7.1.4)."""
+    filled = list(channels) + [0] * (5 - len(channels))
+    return b"".join(c.to_bytes(3, "little") for c in filled) + bytes([0])
+
+
+def build_join_accept(app_nonce, net_id, dev_addr, dl_settings, rx_delay, channels, app_key, room):
+    """`channels` is None without a list. Refuses in the order 8, 7."""
+    if channels is not None and (len(channels) > 5 or any(c > 16777215 for c in channels)):
+        raise Refused(INVALID_CHANNEL_LIST)
+    if room < (17 if channels is None else 33):
+        raise Refused(BUFFER_TOO_SHORT)
+    message = bytes([JOIN_ACCEPT << 5]) + app_nonce + net_id + dev_addr + bytes([dl_settings, rx_delay])
+    if channels is not None:
+        message += channel_list(channels)
+    return each_block(aes_decrypt, app_key, message + mic(app_key, message))
+
+
+DataFields = namedtuple("DataFields", "confirmed uplink dev_addr fctrl counter port")
+
+
+def fill_data(fields, commands, payload, room):
+    """The clear frame without its MIC. Refuses in the order 7, 13, 9, 10, 11, 12. An absent port is None."""
+    if room < 255:
+        raise Refused(BUFFER_TOO_SHORT)
+    if fields.fctrl % 16 != 0:
+        raise Refused(FOPTS_LEN_SET)
+    if len(commands) > 15 and fields.port != 0:
+        raise Refused(MAC_COMMAND_TOO_BIG_FOR_FOPTS)
+    if fields.port == 0 and payload:
+        raise Refused(DATA_AND_MAC_COMMANDS_IN_PAYLOAD_NOT_ALLOWED)
+    if fields.port is None and payload:
+        raise Refused(FRM_PAYLOAD_WITH_FPORT_ZERO)
+    fopts, inner = (b"", commands) if fields.port == 0 else (commands, payload)
+    mtype = 2 + (0 if fields.uplink else 1) + (2 if fields.confirmed else 0)
+    port = b"" if fields.port is None else bytes([fields.port])
+    head = bytes([mtype << 5]) + fields.dev_addr + bytes([fields.fctrl + len(fopts)])
+    clear = head + (fields.counter % 65536).to_bytes(2, "little") + fopts + port + inner
+    if len(clear) + 4 > FRAME_MAX:
+        raise Refused(FRAME_TOO_LONG)
+    return clear
+
+
+def seal_data(clear, network_key, application_key, counter):
+    """The clear frame with its payload encrypted and its MIC appended."""
+    unsigned = clear + bytes(4)
+    reading = read_data(unsigned)
+    key = selected_key(reading.port, network_key, application_key)
+    message = crypt_payload(unsigned, reading, key, counter)[:-4]
+    return message + data_mic(network_key, counter, message)
+
+
+def build_data(fields, commands, payload, network_key, application_key, room):
+    clear = fill_data(fields, commands, payload, room)
+    return seal_data(clear, network_key, application_key, fields.counter)
+
+
+# ---- Amendments ------------------------------------------------------------------------------------------------
+
+
+def open_for_amendment(network_key, application_key, counter, frame):
+    """The clear frame without its MIC. Refuses in the order reading, 14, 5."""
+    reading = read_as(Data, frame)
+    if counter % 65536 != reading.fcnt:
+        raise Refused(COUNTER_MISMATCH)
+    return decrypt_data_checked(network_key, application_key, counter, frame)[:-4]
+
+
+def amend(clear, offset, value):
+    """The clear frame with one payload byte set."""
+    place = read_data(clear + bytes(4)).payload
+    length = 0 if place is None else place[1] - place[0]
+    if offset >= length:
+        raise Refused(OFFSET_OUTSIDE)
+    at = place[0] + offset
+    return clear[:at] + bytes([value]) + clear[at + 1 :]
+
+
+def amend_all(network_key, application_key, counter, frame, amendments):
+    """The opening's number, the number of each amendment, the caller's frame afterwards.
+
+    A refused opening gives a state without a payload, so each amendment to it is refused, and the frame stays.
+    """
+    try:
+        clear = open_for_amendment(network_key, application_key, counter, frame)
+    except Refused as refusal:
+        return refusal.number, [OFFSET_OUTSIDE] * len(amendments), frame
+    numbers = []
+    for offset, value in amendments:
+        try:
+            clear = amend(clear, offset, value)
+            numbers.append(ACCEPTED)
+        except Refused as refusal:
+            numbers.append(refusal.number)
+    return ACCEPTED, numbers, seal_data(clear, network_key, application_key, counter)

@@ -1,0 +1,152 @@
+"""Published vectors, the crate's documentation, the scope document's examples, and the written files.
+
+Run: python3 tools/oracle/test_oracle.py
+"""
+
+import pathlib
+import unittest
+
+import generate
+import oracle
+import records
+
+HEX = bytes.fromhex
+
+
+def number_of(call, *arguments):
+    try:
+        call(*arguments)
+        return 0
+    except oracle.Refused as refusal:
+        return refusal.number
+
+
+class Published(unittest.TestCase):
+    def test_fips_197_c1(self):
+        key = HEX("000102030405060708090a0b0c0d0e0f")
+        clear, secret = HEX("00112233445566778899aabbccddeeff"), HEX("69c4e0d86a7b0430d8cdb78070b4c55a")
+        self.assertEqual(oracle.aes_encrypt(key, clear), secret)
+        self.assertEqual(oracle.aes_decrypt(key, secret), clear)
+
+    def test_fips_197_b(self):
+        key = HEX("2b7e151628aed2a6abf7158809cf4f3c")
+        clear, secret = HEX("3243f6a8885a308d313198a2e0370734"), HEX("3925841d02dc09fbdc118597196a0b32")
+        self.assertEqual(oracle.aes_encrypt(key, clear), secret)
+
+    def test_rfc_4493_4(self):
+        key = HEX("2b7e151628aed2a6abf7158809cf4f3c")
+        message = HEX(
+            "6bc1bee22e409f96e93d7e117393172aae2d8a571e03ac9c9eb76fac45af8e51"
+            "30c81c46a35ce411e5fbc1191a0a52eff69f2445df4f9b17ad2b417be66c3710"
+        )
+        tags = {
+            0: "bb1d6929e95937287fa37d129b756746",
+            16: "070a16b46b4d4144f79bdd9dd04a287c",
+            40: "dfa66747de9ae63030ca32611497c827",
+            64: "51f0bebf7e3b9d92fc49741779363cfe",
+        }
+        for length, tag in tags.items():
+            self.assertEqual(oracle.aes_cmac(key, message[:length]), HEX(tag))
+
+
+class Documented(unittest.TestCase):
+    """The frames of the crate's documentation: under the keys beside them there, they open and can be built."""
+
+    def test_join_request(self):
+        frame = generate.DOCUMENTED_JOIN_REQUEST
+        self.assertTrue(oracle.test_mic_join_request(bytes([1] * 16), frame))
+        fields = frame[1:9], frame[9:17], frame[17:19]
+        self.assertEqual(oracle.build_join_request(*fields, bytes([1] * 16), 23), frame)
+
+    def test_join_accept(self):
+        key, frame = generate.DOCUMENTED_APP_KEY, generate.DOCUMENTED_JOIN_ACCEPT
+        clear = oracle.decrypt_join_accept_checked(key, frame)
+        said = oracle.read_clear_join_accept(clear)
+        self.assertEqual((said.dl_settings, said.rx_delay), (clear[11], clear[12] % 16))
+        self.assertEqual((said.channels, said.masks), (None, None))
+        fields = clear[1:4], clear[4:7], clear[7:11], clear[11], clear[12]
+        self.assertEqual(oracle.build_join_accept(*fields, None, key, 17), frame)
+
+    def test_data(self):
+        network, application = generate.DOCUMENTED_NETWORK_KEY, generate.DOCUMENTED_APPLICATION_KEY
+        frame = generate.DOCUMENTED_DATA
+        clear = oracle.decrypt_data_checked(network, application, 1, frame)
+        reading = oracle.read(clear)
+        self.assertEqual(clear[slice(*reading.payload)], b"hello")
+        fields = oracle.DataFields(False, True, bytes([4, 3, 2, 1]), 0x80, 1, 1)
+        self.assertEqual(oracle.build_data(fields, b"", b"hello", network, application, 255), frame)
+
+
+class Scope(unittest.TestCase):
+    """The rows of the scope document's table of examples."""
+
+    def frame(self, first, length, **at):
+        frame = bytearray([first] + [0xEE] * (length - 1))
+        for place, value in at.items():
+            frame[int(place[1:])] = value
+        return bytes(frame)
+
+    def refused(self, frame):
+        return number_of(oracle.read, frame)
+
+    def test_p1_to_p4(self):
+        self.assertEqual(self.refused(b""), 1)
+        self.assertEqual(self.refused(self.frame(0x43, 11)), 1)
+        reading = oracle.read(self.frame(0x40, 12, b5=0))
+        self.assertEqual((reading.port, reading.payload), (None, None))
+        self.assertEqual(self.refused(self.frame(0x40, 12, b5=1)), 4)
+
+    def test_p5_to_p7(self):
+        reading = oracle.read(self.frame(0x40, 13, b5=1))
+        self.assertEqual((reading.fopts, reading.payload), ((8, 9), None))
+        reading = oracle.read(self.frame(0x40, 13, b5=0, b8=0))
+        self.assertEqual((reading.port, reading.payload, reading.commands), (None, (9, 9), False))
+        reading = oracle.read(self.frame(0x40, 14, b5=0, b8=0))
+        self.assertEqual((reading.port, reading.payload, reading.commands), (0, (9, 10), True))
+
+    def test_p8_to_p13(self):
+        self.assertEqual(self.refused(self.frame(0x41, 12)), 2)
+        self.assertEqual(self.refused(self.frame(0xC0, 12)), 3)
+        self.assertEqual([self.refused(self.frame(0, n)) for n in (22, 23)], [4, 0])
+        self.assertEqual([self.refused(self.frame(0x20, n)) for n in (17, 18, 33)], [0, 4, 0])
+        self.assertEqual(self.refused(self.frame(0x40, 256)), 12)
+        reading = oracle.read(self.frame(0x5C, 12, b5=0))
+        self.assertEqual((reading.mtype, reading.port, reading.payload), (2, None, None))
+
+    def test_p14_to_p16(self):
+        self.assertEqual(oracle.full_counter(0x0001FFFF, 2), 0x00010002)
+        fields = oracle.DataFields(False, True, bytes(4), 0, 0, 1)
+        for commands, payload in ((0, 242), (15, 227)):
+            frame = oracle.build_data(fields, bytes(commands), bytes(payload), bytes(16), bytes(16), 255)
+            self.assertEqual(len(frame), 255)
+            longer = fields, bytes(commands), bytes(payload + 1), bytes(16), bytes(16), 255
+            self.assertEqual(number_of(oracle.build_data, *longer), 12)
+
+
+class Amended(unittest.TestCase):
+    def test_equals_a_fresh_build(self):
+        network, application = bytes(16), bytes([9] * 16)
+        fields = oracle.DataFields(True, False, b"addr", 0x10, 65537, 7)
+        build = lambda payload: oracle.build_data(fields, b"ab", payload, network, application, 255)
+        result = oracle.amend_all(network, application, 65537, build(b"hello"), [(0, 74), (5, 1), (4, 33), (4, 121)])
+        self.assertEqual(result, (0, [0, 15, 0, 0], build(b"Jelly")))
+
+
+class Files(unittest.TestCase):
+    """The written files are what the generator writes now, and their answers what the oracle says to them as read."""
+
+    def test_files(self):
+        out = pathlib.Path(generate.__file__).parent / "out"
+        for name, cases in generate.LISTS.items():
+            bodies = records.read_file((out / f"{name}.stdin").read_bytes())
+            self.assertEqual(bodies, generate.bodies_of(cases(generate.SEED)))
+            self.assertEqual((out / f"{name}.stdout").read_text(), records.answers(bodies))
+
+    def test_reading_a_body_undoes_writing_it(self):
+        for cases in generate.LISTS.values():
+            for kind, arguments in cases(generate.SEED):
+                self.assertEqual(records.read_body(records.write_body(kind, arguments)), (kind, arguments))
+
+
+if __name__ == "__main__":
+    unittest.main()
