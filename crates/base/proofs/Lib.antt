@@ -1,3 +1,4 @@
+pub mod AllBytes
 pub mod Filling
 pub mod Tab
 pub mod Tested

@@ -1,0 +1,1 @@
+// AES-128 both ways, by FIPS 197.
