@@ -5,7 +5,7 @@ use mathlib.Core.List.{List, [], _∷_}
 use Prim.Native.Nat.{ℕ}
 use Rattle.base.specs.Bytes.{part}
 use Rattle.aes.specs.Field.{xtime, mulBits, mul, squares, inverse, fromBits, affine, invAffine, sub, invSub}
-use Rattle.aes.specs.Fips197.{subBytes, shiftRows, row, mixedBy, mixColumns, addRoundKey, powerOfX, nextWord, words, keyExpansion, round, rounds, cipher}
+use Rattle.aes.specs.Fips197.{subBytes, shiftRows, row, mixColumns, addRoundKey, powerOfX, nextWord, words, keyExpansion, round, rounds, cipher}
 use Rattle.aes.specs.Fips197.{invSubBytes, invShiftRows, invMixColumns, invRound, invRounds, invCipher}
 
 -- ---- 4.2
@@ -40,7 +40,7 @@ unfolding xtime mulBits mul squares inverse fromBits affine sub powerOfX nextWor
 schedule-A1 = refl
 
 pub cipher-B : cipher (keyExpansion key-B) input-B ≡ output-B
-unfolding xtime mulBits mul squares inverse fromBits affine sub row mixedBy subBytes shiftRows mixColumns addRoundKey round rounds cipher powerOfX nextWord words keyExpansion
+unfolding xtime mulBits mul squares inverse fromBits affine sub row subBytes shiftRows mixColumns addRoundKey round rounds cipher powerOfX nextWord words keyExpansion
 cipher-B = refl
 
 -- ---- Appendix C.1
@@ -58,9 +58,9 @@ abbrev pub enciphered-C1 : List ℕ
 enciphered-C1 = 0x69 ∷ 0xc4 ∷ 0xe0 ∷ 0xd8 ∷ 0x6a ∷ 0x7b ∷ 0x04 ∷ 0x30 ∷ 0xd8 ∷ 0xcd ∷ 0xb7 ∷ 0x80 ∷ 0x70 ∷ 0xb4 ∷ 0xc5 ∷ 0x5a ∷ []
 
 pub cipher-C1 : cipher (keyExpansion key-C1) plain-C1 ≡ enciphered-C1
-unfolding xtime mulBits mul squares inverse fromBits affine sub row mixedBy subBytes shiftRows mixColumns addRoundKey round rounds cipher powerOfX nextWord words keyExpansion
+unfolding xtime mulBits mul squares inverse fromBits affine sub row subBytes shiftRows mixColumns addRoundKey round rounds cipher powerOfX nextWord words keyExpansion
 cipher-C1 = refl
 
 pub invCipher-C1 : invCipher (keyExpansion key-C1) enciphered-C1 ≡ plain-C1
-unfolding xtime mulBits mul squares inverse fromBits affine sub powerOfX nextWord words keyExpansion invAffine invSub row mixedBy invSubBytes invShiftRows invMixColumns addRoundKey invRound invRounds invCipher
+unfolding xtime mulBits mul squares inverse fromBits affine sub powerOfX nextWord words keyExpansion invAffine invSub row invSubBytes invShiftRows invMixColumns addRoundKey invRound invRounds invCipher
 invCipher-C1 = refl

@@ -15,8 +15,8 @@ use Rattle.aes.specs.Fips197.{word, xorWord, rotWord, subWord, powerOfX,
 use Rattle.aes.specs.Fips197.{subBytes, shiftRows, mixColumns, addRoundKey, nextWord, words, keyExpansion, round, rounds, cipher}
 use Rattle.aes.specs.Fips197.{invSubBytes, invShiftRows, invMixColumns, invRound, invRounds, invCipher}
 use Rattle.aes.proofs.FieldLaws.{xtime-byte, sub-byte}
-use Rattle.aes.proofs.Steps.{Block}
-use Rattle.aes.proofs.Steps as steps
+use Rattle.aes.proofs.Undone.{Block}
+use Rattle.aes.proofs.Undone as steps
 
 -- ---- the schedule
 

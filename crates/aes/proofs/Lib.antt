@@ -1,5 +1,7 @@
-pub mod Columns
+pub mod Column
 pub mod Examples
 pub mod FieldLaws
 pub mod Laws
-pub mod Steps
+pub mod Linear
+pub mod Tables
+pub mod Undone

@@ -13,6 +13,10 @@ use Rattle.aes.specs.Field.{xtime, mul, sub, invSub}
 unfoldable pub sBox : List ℕ
 sBox = tab 256 sub
 
+-- what the table t holds at each byte of a state
+unfoldable pub looked : List ℕ → List ℕ → List ℕ
+looked t s = tab 16 (λ i. at t (at s i))
+
 unfoldable pub subBytes : List ℕ → List ℕ
 subBytes s = tab 16 (λ i. sub (at s i))
 
@@ -32,13 +36,16 @@ row a0 a1 a2 a3 b0 b1 b2 b3 = mul a0 b0 ⊕ mul a3 b1 ⊕ mul a2 b2 ⊕ mul a1 b
 abbrev pub below : ℕ → ℕ → ℕ
 below i k = i / 4 * 4 + (i + k) % 4
 
--- 4.3: every column multiplied by that matrix
-unfoldable pub mixedBy : ℕ → ℕ → ℕ → ℕ → List ℕ → List ℕ
-mixedBy a0 a1 a2 a3 s = tab 16 (λ i. row a0 a1 a2 a3 (at s i) (at s (below i 1)) (at s (below i 2)) (at s (below i 3)))
+-- 4.3: the byte at i with every column multiplied by the matrix of which f gives the first row
+abbrev pub mixedAt : (ℕ → ℕ → ℕ → ℕ → ℕ) → List ℕ → ℕ → ℕ
+mixedAt f s i = f (at s i) (at s (below i 1)) (at s (below i 2)) (at s (below i 3))
 
 -- 5.1.3
+abbrev pub mixRow : ℕ → ℕ → ℕ → ℕ → ℕ
+mixRow = row 0x02 0x01 0x01 0x03
+
 unfoldable pub mixColumns : List ℕ → List ℕ
-mixColumns s = mixedBy 0x02 0x01 0x01 0x03 s
+mixColumns s = tab 16 (mixedAt mixRow s)
 
 -- 5.1.4: the words 4 r to 4 r + 3 of the schedule w are added
 unfoldable pub addRoundKey : List ℕ → ℕ → List ℕ → List ℕ
@@ -118,8 +125,11 @@ unfoldable pub invSubBytes : List ℕ → List ℕ
 invSubBytes s = tab 16 (λ i. invSub (at s i))
 
 -- 5.3.3
+abbrev pub invMixRow : ℕ → ℕ → ℕ → ℕ → ℕ
+invMixRow = row 0x0e 0x09 0x0d 0x0b
+
 unfoldable pub invMixColumns : List ℕ → List ℕ
-invMixColumns s = mixedBy 0x0e 0x09 0x0d 0x0b s
+invMixColumns s = tab 16 (mixedAt invMixRow s)
 
 -- 5.3.4: AddRoundKey is its own inverse
 unfoldable pub invRound : List ℕ → ℕ → List ℕ → List ℕ

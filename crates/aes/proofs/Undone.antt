@@ -11,10 +11,10 @@ use Rattle.base.proofs.Tab.{at-tab, tab-ext, tab-at}
 use Rattle.base.proofs.AllBytes.{tab-bytes}
 use Rattle.base.proofs.Xor.{xor-byte, xor-twice}
 use Rattle.aes.specs.Field.{sub, invSub}
-use Rattle.aes.specs.Fips197.{subBytes, shiftedFrom, shiftRows, row, below, mixedBy, mixColumns, addRoundKey}
-use Rattle.aes.specs.Fips197.{invSubBytes, shiftedBackFrom, invShiftRows, invMixColumns}
+use Rattle.aes.specs.Fips197.{subBytes, shiftedFrom, shiftRows, row, below, mixedAt, mixRow, mixColumns, addRoundKey}
+use Rattle.aes.specs.Fips197.{invSubBytes, shiftedBackFrom, invShiftRows, invMixRow, invMixColumns}
 use Rattle.aes.proofs.FieldLaws.{mul-byte, sub-byte, invSub-byte, invSub-sub, sub-invSub}
-use Rattle.aes.proofs.Columns.{mix-unmix, unmix-mix}
+use Rattle.aes.proofs.Linear.{mix-unmix, unmix-mix}
 
 -- 16 bytes
 pub record Block (s : List ℕ) : Type 0 where
@@ -78,19 +78,18 @@ row-byte k l m n a b c d hk hl hm hn =
     (xor-byte _ _ (xor-byte _ _ (mul-byte k a hk) (mul-byte n b hn)) (mul-byte m c hm))
     (mul-byte l d hl)
 
-mixedBy-block : (k l m n : ℕ) (s : List ℕ) → k < 256 → l < 256 → m < 256 → n < 256 → Block (mixedBy k l m n s)
-unfolding mixedBy
-mixedBy-block k l m n s hk hl hm hn =
-    block-of (λ i. row k l m n (at s i) (at s (below i 1)) (at s (below i 2)) (at s (below i 3)))
+mixed-block : (k l m n : ℕ) (s : List ℕ) → k < 256 → l < 256 → m < 256 → n < 256 → Block (tab 16 (mixedAt (row k l m n) s))
+mixed-block k l m n s hk hl hm hn =
+    block-of (mixedAt (row k l m n) s)
     (λ i. row-byte k l m n (at s i) (at s (below i 1)) (at s (below i 2)) (at s (below i 3)) hk hl hm hn)
 
 pub mixColumns-block : (s : List ℕ) → Block (mixColumns s)
 unfolding mixColumns
-mixColumns-block s = mixedBy-block 0x02 0x01 0x01 0x03 s (omega arith) (omega arith) (omega arith) (omega arith)
+mixColumns-block s = mixed-block 0x02 0x01 0x01 0x03 s (omega arith) (omega arith) (omega arith) (omega arith)
 
 pub invMixColumns-block : (s : List ℕ) → Block (invMixColumns s)
 unfolding invMixColumns
-invMixColumns-block s = mixedBy-block 0x0e 0x09 0x0d 0x0b s (omega arith) (omega arith) (omega arith) (omega arith)
+invMixColumns-block s = mixed-block 0x0e 0x09 0x0d 0x0b s (omega arith) (omega arith) (omega arith) (omega arith)
 
 -- two matrices that undo each other on a column do so on a block
 module _ (f g : ℕ → ℕ → ℕ → ℕ → ℕ)
@@ -110,12 +109,12 @@ module _ (f g : ℕ → ℕ → ℕ → ℕ → ℕ)
       (h .byte (below i 3)))
 
 pub invMixColumns-mixColumns : (s : List ℕ) → Block s → invMixColumns (mixColumns s) ≡ s
-unfolding mixColumns invMixColumns mixedBy
-invMixColumns-mixColumns s h = columns-undone (row 0x0e 0x09 0x0d 0x0b) (row 0x02 0x01 0x01 0x03) unmix-mix s h
+unfolding mixColumns invMixColumns
+invMixColumns-mixColumns s h = columns-undone invMixRow mixRow unmix-mix s h
 
 pub mixColumns-invMixColumns : (s : List ℕ) → Block s → mixColumns (invMixColumns s) ≡ s
-unfolding mixColumns invMixColumns mixedBy
-mixColumns-invMixColumns s h = columns-undone (row 0x02 0x01 0x01 0x03) (row 0x0e 0x09 0x0d 0x0b) mix-unmix s h
+unfolding mixColumns invMixColumns
+mixColumns-invMixColumns s h = columns-undone mixRow invMixRow mix-unmix s h
 
 -- ---- 5.1.4 and 5.3.4
 

@@ -14,7 +14,7 @@ use Rattle.base.specs.Bytes.{_⊕_}
 use Rattle.base.proofs.Xor.{xor-middle}
 use Rattle.base.proofs.Tested.{both, both-left, both-right, below, agree}
 use Rattle.aes.specs.Field.{xtime, mulBits, mul}
-use Rattle.aes.specs.Fips197.{row}
+use Rattle.aes.specs.Fips197.{row, mixRow, invMixRow}
 use Rattle.aes.proofs.FieldLaws.{mul-add}
 
 -- a rule that makes a byte of the four bytes of a column
@@ -129,16 +129,10 @@ same-rule f g hf hg ta tb tc td a b c d ha hb hc hd =
 
 -- ---- the matrices of 5.1.3 and 5.3.3
 
-abbrev pub mixRow : Rule
-mixRow = row 0x02 0x01 0x01 0x03
-
-abbrev pub unmixRow : Rule
-unmixRow = row 0x0e 0x09 0x0d 0x0b
-
 mix-linear : Linear mixRow
 mix-linear = row-of 0x02 0x01 0x01 0x03 first second third fourth
 
-unmix-linear : Linear unmixRow
+unmix-linear : Linear invMixRow
 unmix-linear = row-of 0x0e 0x09 0x0d 0x0b first second third fourth
 
 -- a rule at the four rows of a column, handed to another
@@ -146,10 +140,10 @@ abbrev after : Rule → Rule → Rule
 after f g a b c d = f (g a b c d) (g b c d a) (g c d a b) (g d a b c)
 
 pub unmix-mix : (a b c d : ℕ) → a < 256 → b < 256 → c < 256 → d < 256
-    → unmixRow (mixRow a b c d) (mixRow b c d a) (mixRow c d a b) (mixRow d a b c) ≡ a
+    → invMixRow (mixRow a b c d) (mixRow b c d a) (mixRow c d a b) (mixRow d a b c) ≡ a
 unfolding xtime mulBits mul row
 unmix-mix =
-    same-rule (after unmixRow mixRow) (λ a b c d. a)
+    same-rule (after invMixRow mixRow) (λ a b c d. a)
     (row-of 0x0e 0x09 0x0d 0x0b (row-of 0x02 0x01 0x01 0x03 first second third fourth)
     (row-of 0x02 0x01 0x01 0x03 second third fourth first)
     (row-of 0x02 0x01 0x01 0x03 third fourth first second)
@@ -157,10 +151,10 @@ unmix-mix =
     first tt tt tt tt
 
 pub mix-unmix : (a b c d : ℕ) → a < 256 → b < 256 → c < 256 → d < 256
-    → mixRow (unmixRow a b c d) (unmixRow b c d a) (unmixRow c d a b) (unmixRow d a b c) ≡ a
+    → mixRow (invMixRow a b c d) (invMixRow b c d a) (invMixRow c d a b) (invMixRow d a b c) ≡ a
 unfolding xtime mulBits mul row
 mix-unmix =
-    same-rule (after mixRow unmixRow) (λ a b c d. a)
+    same-rule (after mixRow invMixRow) (λ a b c d. a)
     (row-of 0x02 0x01 0x01 0x03 (row-of 0x0e 0x09 0x0d 0x0b first second third fourth)
     (row-of 0x0e 0x09 0x0d 0x0b second third fourth first)
     (row-of 0x0e 0x09 0x0d 0x0b third fourth first second)
@@ -173,13 +167,9 @@ mix-unmix =
 abbrev pub mixed : Rule
 mixed a b c d = mul 2 (a ⊕ b) ⊕ (b ⊕ (c ⊕ d))
 
-mixed-of : {e f g h : Rule} → Linear e → Linear f → Linear g → Linear h
-    → Linear (λ a b c d. mixed (e a b c d) (f a b c d) (g a b c d) (h a b c d))
-mixed-of he hf hg hh = times 2 (he plus hf) plus (hf plus (hg plus hh))
-
 pub mixed-right : (a b c d : ℕ) → a < 256 → b < 256 → c < 256 → d < 256 → mixed a b c d ≡ mixRow a b c d
 unfolding xtime mulBits mul row
-mixed-right = same-rule mixed mixRow (mixed-of first second third fourth) mix-linear tt tt tt tt
+mixed-right = same-rule mixed mixRow (times 2 (first plus second) plus (second plus (third plus fourth))) mix-linear tt tt tt tt
 
 -- 4 times the sum of two bytes
 abbrev pub fourTimes : ℕ → ℕ → ℕ
@@ -187,11 +177,12 @@ fourTimes a c = mul 2 (mul 2 (a ⊕ c))
 
 -- the inverse matrix is that of MixColumns times the one that 5, 0, 4, 0 fix
 pub unmixed-right : (a b c d : ℕ) → a < 256 → b < 256 → c < 256 → d < 256
-    → mixed (a ⊕ fourTimes a c) (b ⊕ fourTimes b d) (c ⊕ fourTimes a c) (d ⊕ fourTimes b d) ≡ unmixRow a b c d
+    → mixRow (a ⊕ fourTimes a c) (b ⊕ fourTimes b d) (c ⊕ fourTimes a c) (d ⊕ fourTimes b d) ≡ invMixRow a b c d
 unfolding xtime mulBits mul row
 unmixed-right =
-    same-rule _ unmixRow
-    (mixed-of (first plus times 2 (times 2 (first plus third))) (second plus times 2 (times 2 (second plus fourth)))
+    same-rule _ invMixRow
+    (row-of 0x02 0x01 0x01 0x03 (first plus times 2 (times 2 (first plus third)))
+    (second plus times 2 (times 2 (second plus fourth)))
     (third plus times 2 (times 2 (first plus third)))
     (fourth plus times 2 (times 2 (second plus fourth))))
     unmix-linear tt tt tt tt

@@ -1,0 +1,14 @@
+-- `aes::substitution::table` gives its table: every entry is computed by its rule and compared, the whole table in one test.
+-- Assumes nothing.
+use mathlib.Core.Path.{refl}
+use Rattle.aes.specs.Field.{xtime, mulBits, mul, squares, inverse, fromBits, affine, sub}
+use Rattle.aes.specs.Fips197.{sBox}
+use Rattle.aes.proofs.substitution.table.Statement.{statement}
+use Rattle.aes.proofs.substitution.table.Tie as tie
+
+returns : tie.Need-returns
+unfolding xtime mulBits mul squares inverse fromBits affine sub sBox
+returns c = refl
+
+pub table-spec : {M : Type 1} → statement M
+table-spec = tie.close (tie.spec returns)
