@@ -23,8 +23,7 @@ use Rattle.aes.proofs.Undone as steps
 words-long : (n : ℕ) (key : List ℕ) → length (words n key) ≡ 16 + 4 * n
 unfolding words nextWord
 words-long zero key = refl
-words-long (suc n) key =
-    length-append (words n key) (nextWord (words n key) (4 + n)) ∙ (omega (arith, words-long n key))
+words-long (suc n) key = length-append (words n key) _ ∙ (omega (arith, words-long n key))
 
 pub schedule-long : (key : List ℕ) → length (keyExpansion key) ≡ 176
 unfolding keyExpansion
@@ -45,14 +44,13 @@ rcon-byte : (j : ℕ) → AreBytes (rcon j)
 rcon-byte j zero = powerOfX-byte (j - 1)
 rcon-byte j (suc i) = tab-bytes 3 (λ k. 0) (λ k l. omega arith) i
 
-temp-byte : (w : List ℕ) (i : ℕ) → AreBytes w → AreBytes (temp w i)
-temp-byte w i h =
-    let last : List ℕ = word w (i - 1) in
-    let turned : List ℕ = rotWord last in
-    pick-bytes (eqb (i % 4) 0) (xorWord (subWord turned) (rcon (i / 4))) last
+temp-byte : (q : List ℕ) (i : ℕ) → AreBytes q → AreBytes (temp q i)
+temp-byte q i h =
+    let turned : List ℕ = rotWord q in
+    pick-bytes (eqb (i % 4) 0) (xorWord (subWord turned) (rcon (i / 4))) q
     (xorWord-byte (subWord turned) (rcon (i / 4)) (tab-bytes 4 (λ j. sub (at turned j)) (λ j k. sub-byte (at turned j)))
     (rcon-byte (i / 4)))
-    (word-byte w (i - 1) h)
+    h
 
 words-byte : (n : ℕ) (key : List ℕ) → AreBytes key → AreBytes (words n key)
 unfolding words nextWord
@@ -60,8 +58,10 @@ words-byte zero key h = tab-bytes 16 (at key) (λ i k. h i)
 words-byte (suc n) key h =
     let w : List ℕ = words n key in
     let hw : AreBytes w = words-byte n key h in
-    append-bytes w (nextWord w (4 + n)) hw
-    (xorWord-byte (word w (4 + n - 4)) (temp w (4 + n)) (word-byte w (4 + n - 4) hw) (temp-byte w (4 + n) hw))
+    let old : List ℕ = word w (n + 4 - 4) in
+    let added : List ℕ = temp (word w (n + 4 - 1)) (n + 4) in
+    append-bytes w (xorWord old added) hw
+    (xorWord-byte old added (word-byte w (n + 4 - 4) hw) (temp-byte (word w (n + 4 - 1)) (n + 4) (word-byte w (n + 4 - 1) hw)))
 
 pub schedule-byte : (key : List ℕ) → AreBytes key → AreBytes (keyExpansion key)
 unfolding keyExpansion

@@ -1,7 +1,9 @@
 pub mod Column
 pub mod Examples
 pub mod FieldLaws
+pub mod Growing
 pub mod Laws
 pub mod Linear
+pub mod Rounds
 pub mod Tables
 pub mod Undone

@@ -75,20 +75,22 @@ powerOfX (suc n) = xtime (powerOfX n)
 abbrev pub rcon : ℕ → List ℕ
 rcon j = powerOfX (j - 1) ∷ 0 ∷ 0 ∷ 0 ∷ []
 
--- Algorithm 2: what is added to word i - 4 to give word i
+-- Algorithm 2: what is added to word i - 4 to give word i, of word i - 1
 abbrev pub temp : List ℕ → ℕ → List ℕ
-temp w i = pick (eqb (i % 4) 0) (xorWord (subWord (rotWord (word w (i - 1)))) (rcon (i / 4))) (word w (i - 1))
+temp q i = pick (eqb (i % 4) 0) (xorWord (subWord (rotWord q)) (rcon (i / 4))) q
 
-unfoldable pub nextWord : List ℕ → ℕ → List ℕ
-nextWord w i = xorWord (word w (i - 4)) (temp w i)
+-- Algorithm 2: word i, of words i - 4 and i - 1
+unfoldable pub nextWord : List ℕ → List ℕ → ℕ → List ℕ
+nextWord p q i = xorWord p (temp q i)
 
-abbrev pub withNext : ℕ → List ℕ → List ℕ
-withNext i w = w ++ nextWord w i
+-- the words before word i, and word i
+abbrev pub withNext : List ℕ → ℕ → List ℕ
+withNext w i = w ++ nextWord (word w (i - 4)) (word w (i - 1)) i
 
 -- the words of the key, and n more
 unfoldable pub words : ℕ → List ℕ → List ℕ
 words zero key = tab 16 (at key)
-words (suc n) key = withNext (4 + n) (words n key)
+words (suc n) key = withNext (words n key) (n + 4)
 
 -- Algorithm 2
 unfoldable pub keyExpansion : List ℕ → List ℕ
