@@ -1,6 +1,6 @@
 -- A rule for every number below a bound, by one test that is computed at each of them.
 -- Assumes nothing.
-use mathlib.Core.Path.{_≡_}
+use mathlib.Core.Path.{_≡_, refl}
 use mathlib.Core.Bool.{Bool, true, false}
 use Prim.Native.Nat.{ℕ, zero, suc, _<_, zero-le, suc-le-suc}
 use native.Mathlib.Nat.{not-suc-le-zero, le-of-suc-le-suc}
@@ -43,3 +43,8 @@ agree n f g t k h = eqb→eq (f k) (g k) (passes n (λ m. eqb (f m) (g m)) t k h
 -- a function whose values were found below m at each number below n
 pub bounded : (n m : ℕ) (f : ℕ → ℕ) → T (below n (λ k. ltb (f k) m)) → (k : ℕ) → k < n → f k < m
 bounded n m f t k h = ltb→lt (f k) m (passes n (λ j. ltb (f j) m) t k h)
+
+-- a test passes or it does not
+pub by-test : {A : Type 0} (b : Bool) → (b ≡ true → A) → (b ≡ false → A) → A
+by-test true f g = f refl
+by-test false f g = g refl
