@@ -1,0 +1,4 @@
+pub mod Compared
+pub mod Laws
+pub mod Subkeys
+pub mod Turns

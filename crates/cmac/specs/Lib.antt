@@ -1,0 +1,3 @@
+pub mod Rfc4493
+pub mod Running
+pub mod Compared

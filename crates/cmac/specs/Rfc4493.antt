@@ -1,0 +1,70 @@
+-- CMAC with AES-128, after RFC 4493: the subkeys (section 2.3) and the tag (section 2.4). ks is the key schedule, so
+-- that AES-128(K, x) is cipher ks x; m is the message. The blocks of the message go by their index.
+-- Assumes nothing.
+use mathlib.Core.List.{List, [], _∷_, _++_}
+use Prim.Native.Nat.{ℕ, zero, suc, _+_, _*_, _-_, _/_, _%_}
+use lib.ListN.{length, take, drop, replicate}
+use lib.Dec.{ltb}
+use Rattle.base.specs.Bytes.{pick, tab, at, part, xorL}
+use Rattle.aes.specs.Fips197.{keyExpansion, cipher}
+
+-- 2.1, const_Zero: sixteen zeros
+abbrev pub zeros : List ℕ
+zeros = replicate 16 0
+
+-- 2.3, const_Rb: 0x87 behind fifteen zeros
+abbrev pub constRb : List ℕ
+constRb = replicate 15 0 ++ 0x87 ∷ []
+
+-- byte i of x << 1: the byte's own low seven bits, then the top bit of the next byte
+abbrev pub shiftedAt : List ℕ → ℕ → ℕ
+shiftedAt x i = at x i * 2 % 256 + at x (i + 1) / 128
+
+-- 2.1: x << 1, the sixteen bytes shifted left by one bit
+unfoldable pub shifted : List ℕ → List ℕ
+shifted x = tab 16 (shiftedAt x)
+
+-- 2.3, steps 2 and 3: x << 1, with const_Rb if the top bit of x was set
+unfoldable pub doubled : List ℕ → List ℕ
+doubled x = pick (ltb (at x 0) 128) (shifted x) (xorL (shifted x) constRb)
+
+-- 2.3: K1, of L = AES-128(K, const_Zero)
+unfoldable pub subkey1 : List ℕ → List ℕ
+subkey1 ks = doubled (cipher ks zeros)
+
+-- 2.3: K2
+unfoldable pub subkey2 : List ℕ → List ℕ
+subkey2 ks = doubled (subkey1 ks)
+
+-- 2.4, steps 5 and 6: X after the first i blocks of sixteen bytes
+unfoldable pub chain : List ℕ → List ℕ → ℕ → List ℕ
+chain ks m zero = zeros
+chain ks m (suc i) = cipher ks (xorL (chain ks m i) (part (16 * i) 16 m))
+
+-- 2.4, steps 2 and 3: how many blocks stand before the last; the empty message has a last block too
+unfoldable pub ahead : List ℕ → ℕ
+ahead m = (length m - 1) / 16
+
+-- 2.4: padding(x) is x, a one bit, then zeros up to sixteen bytes
+unfoldable pub padded : List ℕ → List ℕ
+padded x = x ++ 0x80 ∷ replicate (15 - length x) 0
+
+-- 2.4, step 4: M_last, of the last block of the message
+unfoldable pub lastBlock : List ℕ → List ℕ → List ℕ
+lastBlock ks x = pick (ltb (length x) 16) (xorL (padded x) (subkey2 ks)) (xorL x (subkey1 ks))
+
+-- 2.4, step 6: T, of X after the blocks before the last, and of the last block
+unfoldable pub closed : List ℕ → List ℕ → List ℕ → List ℕ
+closed ks x last = cipher ks (xorL x (lastBlock ks last))
+
+-- 2.4: the tag T
+unfoldable pub tag : List ℕ → List ℕ → List ℕ
+tag ks m = closed ks (chain ks m (ahead m)) (drop (16 * ahead m) m)
+
+-- 2.4: AES-CMAC of a key and a message
+unfoldable pub mac : List ℕ → List ℕ → List ℕ
+mac key m = tag (keyExpansion key) m
+
+-- LoRaWAN 1.0, 4.4: a message integrity code is the tag's first four bytes
+unfoldable pub mic : List ℕ → List ℕ → List ℕ
+mic key m = take 4 (mac key m)
