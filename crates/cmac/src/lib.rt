@@ -146,12 +146,12 @@ impl Cmac {
     {
         let schedule = self.schedule;
         let mut last = self.chain;
-        let filled = self.filled;
+        let count = self.filled;
         let zero = [0u8; 16];
         let l = aes::encrypt_under(&schedule, zero);
         let k1 = double(l);
-        if filled < 16 {
-            last[filled] = last[filled] ^ 0x80;
+        if count < 16 {
+            last[count] = last[count] ^ 0x80;
             let k2 = double(k1);
             let short = xored(last, k2);
             return aes::encrypt_under(&schedule, short);
