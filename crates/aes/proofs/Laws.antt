@@ -1,13 +1,13 @@
 -- What a caller may know of key expansion and of the two ciphers: their lengths, that they give bytes, and that each
 -- cipher undoes the other under any schedule, by induction over the rounds.
 -- Assumes nothing.
-use mathlib.Core.Path.{_≡_, refl, sym, ap, _∙_}
-use mathlib.Core.List.{List, _++_}
+use mathlib.Core.Path.{_≡_, refl, ap, _∙_}
+use mathlib.Core.List.{List}
 use Prim.Native.Nat.{ℕ, zero, suc, _+_, _-_, _*_, _/_, _%_, _<_}
 use native.Mathlib.Omega.{arith}
 use lib.Dec.{eqb}
 use lib.ListN.{length, length-append}
-use Rattle.base.specs.Bytes.{tab, at, _⊕_, AreBytes}
+use Rattle.base.specs.Bytes.{at, _⊕_, AreBytes}
 use Rattle.base.proofs.AllBytes.{append-bytes, pick-bytes, tab-bytes}
 use Rattle.base.proofs.Xor.{xor-byte}
 use Rattle.aes.specs.Field.{sub}

@@ -2,10 +2,10 @@
 -- table, and looking up each byte of a state is its substitution. The tables are lists by their rules, so an entry is
 -- what its rule gives.
 -- Assumes nothing.
-use mathlib.Core.Path.{_≡_, refl, sym, ap, _∙_}
+use mathlib.Core.Path.{_≡_, ap, _∙_}
 use mathlib.Core.List.{List}
 use Prim.Native.Nat.{ℕ, _<_}
-use Rattle.base.specs.Bytes.{tab, at, AreBytes}
+use Rattle.base.specs.Bytes.{at, AreBytes}
 use Rattle.base.proofs.Tab.{at-tab, tab-ext}
 use Rattle.aes.specs.Field.{inverse, affine, invAffine, sub, invSub}
 use Rattle.aes.specs.Fips197.{sBox, invSBox, looked, subBytes, invSubBytes}

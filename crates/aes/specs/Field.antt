@@ -1,7 +1,6 @@
 -- The field of 256 elements, from FIPS 197, section 4. A byte stands for a polynomial of degree below 8 whose
 -- coefficients are its bits; the sum of two bytes is their exclusive or (4.1).
 -- Assumes nothing.
-use mathlib.Core.Bool.{Bool}
 use Prim.Native.Nat.{ℕ, zero, suc, _+_, _*_, _/_, _%_, _^_}
 use lib.Dec.{ltb, eqb}
 use Rattle.base.specs.Bytes.{pick, _⊕_}

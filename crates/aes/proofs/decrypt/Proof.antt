@@ -1,10 +1,6 @@
 -- `aes::decrypt` meets its contract: it expands the key, then works under the schedule.
 -- Assumes nothing.
-use mathlib.Core.Path.{ap, _∙_}
-use mathlib.Core.List.{List}
-use Prim.Native.Nat.{ℕ}
 use borrow.Author.Needs.{needs}
-use Rattle.aes.specs.Fips197.{invCipher}
 use Rattle.aes.proofs.decrypt.Statement.{statement}
 use Rattle.aes.proofs.decrypt.Tie as tie
 

@@ -1,6 +1,5 @@
 -- `aes::columns::unmixed` meets its contract, by the law on the shorter way to unmix.
 -- Assumes nothing.
-use mathlib.Core.Path.{_∙_}
 use borrow.Author.Needs.{needs}
 use Rattle.aes.proofs.Linear.{unmixed-right}
 use Rattle.aes.proofs.columns.unmixed.Statement.{statement}

@@ -1,12 +1,9 @@
 -- `aes::schedule::begun` meets its contract: the loop fills the first 16 bytes with the key.
 -- Assumes nothing.
-use mathlib.Core.Path.{_≡_, refl, ap, _∙_}
-use Prim.Native.Nat.{ℕ, _-_, _≤_}
+use mathlib.Core.Path.{_≡_, refl}
+use Prim.Native.Nat.{_-_, _≤_}
 use native.Mathlib.Omega.{arith}
-use borrow.Author.Needs.{needs}
-use mathlib.Core.List.{List}
-use lib.ListN.{take}
-use Rattle.base.specs.Bytes.{tab, at}
+use Rattle.base.specs.Bytes.{at}
 use Rattle.base.proofs.Filling.{Filling, start, step}
 use Rattle.aes.proofs.schedule.begun.Statement.{statement}
 use Rattle.aes.proofs.schedule.begun.Tie as tie

@@ -4,7 +4,6 @@ use mathlib.Core.Path.{ap, _∙_}
 use mathlib.Core.List.{List}
 use Prim.Native.Nat.{ℕ}
 use native.Mathlib.Omega.{arith}
-use borrow.Author.Needs.{needs}
 use Rattle.base.specs.Bytes.{at}
 use Rattle.aes.specs.Field.{sub}
 use Rattle.aes.proofs.Tables.{sBox-entry}
