@@ -8,7 +8,8 @@ use native.Mathlib.Omega.{arith}
 use lib.Dec.{eqb}
 use lib.ListN.{length, length-append}
 use Rattle.base.specs.Bytes.{at, _⊕_, AreBytes}
-use Rattle.base.proofs.AllBytes.{append-bytes, pick-bytes, tab-bytes}
+use Rattle.base.proofs.AllBytes.{pick-bytes, tab-bytes}
+use Rattle.base.proofs.Parts.{bytes-append}
 use Rattle.base.proofs.Xor.{xor-byte}
 use Rattle.aes.specs.Field.{sub}
 use Rattle.aes.specs.Fips197.{word, xorWord, rotWord, subWord, powerOfX, rcon, temp}
@@ -60,7 +61,7 @@ words-byte (suc n) key h =
     let hw : AreBytes w = words-byte n key h in
     let old : List ℕ = word w (n + 4 - 4) in
     let added : List ℕ = temp (word w (n + 4 - 1)) (n + 4) in
-    append-bytes w (xorWord old added) hw
+    bytes-append w (xorWord old added) hw
     (xorWord-byte old added (word-byte w (n + 4 - 4) hw) (temp-byte (word w (n + 4 - 1)) (n + 4) (word-byte w (n + 4 - 1) hw)))
 
 pub schedule-byte : (key : List ℕ) → AreBytes key → AreBytes (keyExpansion key)

@@ -1,16 +1,11 @@
--- Strings of bytes put together of strings of bytes: of two, one after the other, and of one of two by a test.
+-- Strings of bytes that a test chooses, or that a table gives.
 -- Assumes nothing.
 use mathlib.Core.Bool.{Bool, true, false}
-use mathlib.Core.List.{List, [], _∷_, _++_}
-use Prim.Native.Nat.{ℕ, zero, suc, _<_}
+use mathlib.Core.List.{List}
+use Prim.Native.Nat.{ℕ, _<_}
 use native.Mathlib.Omega.{arith}
 use Rattle.base.specs.Bytes.{pick, tab, AreBytes}
 use Rattle.base.proofs.Tab.{tab-all}
-
-pub append-bytes : (s t : List ℕ) → AreBytes s → AreBytes t → AreBytes (s ++ t)
-append-bytes [] t hs ht i = ht i
-append-bytes (a ∷ s) t hs ht zero = hs 0
-append-bytes (a ∷ s) t hs ht (suc i) = append-bytes s t (λ j. hs (suc j)) ht i
 
 pub pick-bytes : (b : Bool) (s t : List ℕ) → AreBytes s → AreBytes t → AreBytes (pick b s t)
 pick-bytes true s t hs ht = hs

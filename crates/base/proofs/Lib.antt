@@ -1,6 +1,12 @@
 pub mod AllBytes
+pub mod Cases
+pub mod Each
 pub mod Filling
+pub mod Lent
+pub mod Mask
 pub mod Parts
+pub mod Pieces
+pub mod Put
 pub mod Tab
 pub mod Tested
 pub mod Xor

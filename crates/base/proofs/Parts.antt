@@ -79,3 +79,10 @@ xorL-zeros (a ∷ s) [] (suc n) h =
     ap₂ (λ (x : ℕ) (l : List ℕ). x ∷ l) (xor-zero-r a) (xorL-zeros s [] n (omega arith) ∙ xorL-nil s)
 xorL-zeros [] (b ∷ t) n h = let none : ⊥ = omega arith in absurd none
 xorL-zeros (a ∷ s) (b ∷ t) n h = ap (λ (l : List ℕ). (a ⊕ b) ∷ l) (xorL-zeros s t n (omega arith))
+
+pub length-part : (a n : ℕ) (s : List ℕ) → a + n ≤ length s → length (part a n s) ≡ n
+length-part a n s h = length-take-le n (drop a s) (omega (arith, length-drop a s))
+
+-- the byte at an index of a part
+pub at-part : (a n : ℕ) (s : List ℕ) (i : ℕ) → i < n → at (part a n s) i ≡ at s (a + i)
+at-part a n s i k = getD-take n (drop a s) i 0 k ∙ getD-drop a s i 0
