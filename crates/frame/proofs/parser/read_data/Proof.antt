@@ -1,0 +1,25 @@
+-- `frame::parser::read_data` meets its contract. Each part is what its own reader ensures.
+-- Assumes nothing.
+use mathlib.Core.Path.{sym}
+use native.Mathlib.Omega.{arith}
+use Rattle.frame.proofs.ReadingSteps.{data-right, data-wrong}
+use denote.Ref.{now}
+use Rattle.frame.specs.Reading.{dataOf}
+use borrow.Author.Needs.{needs}
+use Rattle.frame.proofs.parser.read_data.Statement.{statement}
+use Rattle.frame.proofs.parser.read_data.Tie as tie
+
+returns : tie.Need-returns
+returns c = sym (data-wrong _ (omega arith))
+
+returns-2 : tie.Need-returns-2
+unfolding dataOf
+returns-2 c =
+    cc (data-right (now (c .before .before .before .before .before .before .before .before .before .before .before .before .args .frame)) (omega arith))
+
+pub read-data-spec : {M : Type 1} → statement M
+read-data-spec =
+    tie.close
+    (tie.spec (λ c. search needs) (λ c κs. search needs) (λ c. search needs) returns (λ c κs. search needs)
+    (λ c κs. search needs) (λ c. search needs) (λ c. search needs) (λ c κs. search needs) (λ c. search needs)
+    (λ c κs. search needs) (λ c. search needs) (λ c. search needs) (λ c. search needs) returns-2)

@@ -1,0 +1,15 @@
+-- `frame::parser::request_fields` meets its contract. Each field is what its own reader ensures.
+-- Assumes nothing.
+use Rattle.frame.specs.Joining.{requestFields}
+use borrow.Author.Needs.{needs}
+use Rattle.frame.proofs.parser.request_fields.Statement.{statement}
+use Rattle.frame.proofs.parser.request_fields.Tie as tie
+
+returns : tie.Need-returns
+unfolding requestFields
+returns c = cc
+
+pub request-fields-spec : {M : Type 1} → statement M
+request-fields-spec =
+    tie.close
+    (tie.spec (λ c κs. search needs) (λ c κs. search needs) (λ c κs. search needs) (λ c κs. search needs) returns)

@@ -1,0 +1,64 @@
+-- What reading gives, from document 01 "Reading" and "Numbers a caller may see": the refusals in the order 12, 1, 2, 3, 4,
+-- and the fields of what is accepted.
+-- Assumes nothing.
+use mathlib.Core.Bool.{Bool, true, false}
+use mathlib.Core.List.{List, [], _∷_}
+use Prim.Native.Nat.{ℕ, _+_, _-_}
+use lib.Dec.{leb, ltb, eqb}
+use lib.ListN.{length}
+use Rattle.base.specs.Bytes.{pick, at}
+use Rattle.frame.specs.Layout.{mtype, major, fctrl, fcnt, fhdrLength, fitsHeader, hasPort, fport, payloadStart, payloadEnd}
+use Rattle.frame.specs.declared.parser.FPort.{FPort}
+use Rattle.frame.specs.declared.parser.FPort.the-variants.{Absent, Port}
+use Rattle.frame.specs.declared.parser.FrmPayload.{FrmPayload}
+use Rattle.frame.specs.declared.parser.FrmPayload.the-variants.{Nothing, Data as PlainData, MacCommands}
+use Rattle.frame.specs.declared.parser.DataFrame.{DataFrame}
+use Rattle.frame.specs.declared.parser.Reading.{Reading}
+use Rattle.frame.specs.declared.parser.Reading.the-variants.{JoinRequest, JoinAccept, Data, Refused}
+
+-- a refusal by its number; its place is 0
+abbrev pub refuse : ℕ → Reading
+refuse n = Refused n 0
+
+unfoldable pub portOf : List ℕ → FPort
+portOf f = pick (hasPort f) (Port (fport f)) Absent
+
+-- commands where the reported port is 0, data where it is not; nothing where there is no byte for a port
+unfoldable pub payloadOf : List ℕ → FrmPayload
+payloadOf f =
+    pick (ltb (length f) (fhdrLength f + 6)) Nothing
+    (pick (hasPort f)
+    (pick (eqb (fport f) 0) (MacCommands (payloadStart f) (payloadEnd f)) (PlainData (payloadStart f) (payloadEnd f)))
+    (PlainData (payloadStart f) (payloadEnd f)))
+
+unfoldable pub dataOf : List ℕ → DataFrame
+dataOf f =
+    record {
+      mtype = mtype f;
+      fctrl = fctrl f;
+      fcnt = fcnt f;
+      «fopts_end» = 1 + fhdrLength f;
+      port = portOf f;
+      payload = payloadOf f;
+      mic = length f - 4;
+    }
+
+-- by the type, of a frame that is long enough and of the right version
+unfoldable pub readJoinRequest : List ℕ → Reading
+readJoinRequest f = pick (eqb (length f) 23) JoinRequest (refuse 4)
+
+unfoldable pub readJoinAccept : List ℕ → Reading
+readJoinAccept f = pick (eqb (length f) 17) (JoinAccept 17) (pick (eqb (length f) 33) (JoinAccept 33) (refuse 4))
+
+unfoldable pub readData : List ℕ → Reading
+readData f = pick (fitsHeader f) (Data (dataOf f)) (refuse 4)
+
+unfoldable pub readType : List ℕ → Reading
+readType f =
+    pick (eqb (mtype f) 0) (readJoinRequest f)
+    (pick (eqb (mtype f) 1) (readJoinAccept f) (pick (ltb (mtype f) 6) (readData f) (refuse 3)))
+
+unfoldable pub readOf : List ℕ → Reading
+readOf f =
+    pick (ltb 255 (length f)) (refuse 12)
+    (pick (ltb (length f) 12) (refuse 1) (pick (eqb (major f) 0) (readType f) (refuse 2)))
