@@ -1,0 +1,13 @@
+-- `byte_or_zero` gives what stands at an index: past the end that is 0 by the definition.
+-- Assumes nothing.
+use borrow.Author.Needs.{needs}
+use mathlib.Core.Path.{sym}
+use Rattle.base.proofs.Tab.{at-past}
+use Rattle.secure.proofs.securityhelpers.byte_or_zero.Statement.{statement}
+use Rattle.secure.proofs.securityhelpers.byte_or_zero.Tie as tie
+
+past : tie.Need-returns-2
+past c = sym (at-past (c .before .args .bytes .now) _ (c .if1 .left))
+
+pub byte-or-zero-spec : {M : Type 1} → statement M
+byte-or-zero-spec = tie.close (tie.spec (λ c. search needs) (λ c. search needs) past)

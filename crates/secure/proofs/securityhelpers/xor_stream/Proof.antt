@@ -1,0 +1,64 @@
+-- `xor_stream` lays the key stream on from the front, one block a turn.
+-- Assumes nothing.
+use Prim.Native.Nat.{ℕ, _-_, _<_, _%_}
+use mathlib.Core.Path.{_≡_, refl, sym, ap, _∙_}
+use mathlib.Core.List.{List}
+use lib.ListN.{length, set}
+use native.Mathlib.Omega.{arith}
+use borrow.Author.Needs.{needs}
+use Rattle.base.specs.Bytes.{at}
+use Rattle.base.proofs.Mask.{Masking, start, step-part, done}
+use Rattle.aes.specs.Fips197.{cipher}
+use Rattle.secure.specs.Security.{blockNumber, streamUnder}
+use Rattle.secure.proofs.SecurityLaws.{streamUnder-at}
+use Rattle.secure.proofs.securityhelpers.xor_stream.Statement.{statement}
+use Rattle.secure.proofs.securityhelpers.xor_stream.Tie as tie
+
+abbrev Inv-loop : tie.InvT-loop
+Inv-loop schedule block payload₀ i₀ payload i =
+    Masking payload₀ (streamUnder schedule block) payload i × (i < length payload₀ → i % 16 ≡ 0)
+
+abbrev μ-loop : tie.MeasureT-loop
+μ-loop schedule block payload₀ i₀ payload i = length payload₀ - i
+
+loop-holds : tie.Need-loop-holds Inv-loop μ-loop
+loop-holds c = (start _ _, λ l. refl)
+
+loop-again : tie.Need-loop-again Inv-loop μ-loop
+loop-again c =
+    let turn = c .before .before .before .before .before in
+    let head = turn .before .before .before .before in
+    let args = head .before .before .args in
+    let i = head .loop .i in
+    let end = turn .before .before .block-end .result in
+    let s = turn .encrypt-under .result in
+    let known : s ≡ cipher (args .schedule .now) (set (args .block) 15 (blockNumber i)) = cc in
+    let whole : i % 16 ≡ 0 = head .loop .inv .1 (search needs) in (
+      step-part end s (head .loop .inv .0) (search needs) (search needs)
+          (λ k l. streamUnder-at (args .schedule .now) (args .block) i k whole (omega arith) ∙ ap (λ (b : List ℕ). at b k) (sym known))
+          (c .before .before .xor-block .ensures),
+      λ l. omega arith,
+    )
+
+returns : tie.Need-returns Inv-loop μ-loop
+returns c = done (c .before .loop .inv .0) (search needs)
+
+pub xor-stream-spec : {M : Type 1} → statement M
+xor-stream-spec =
+    tie.close
+    (tie.spec
+    Inv-loop
+    μ-loop
+    loop-holds
+    (λ c κs. search needs)
+    (λ c κs. search needs)
+    (λ c. search needs)
+    (λ c κs. search needs)
+    (λ c. search needs)
+    (λ c. search needs)
+    (λ c. search needs)
+    (λ c κs. search needs)
+    (λ c. search needs)
+    loop-again
+    (λ c. search needs)
+    returns)

@@ -1,0 +1,3 @@
+pub mod JoinAccept
+pub mod Sealing
+pub mod Security
