@@ -1,0 +1,9 @@
+pub mod BuildingDetermined
+pub mod BuildingRefusals
+pub mod BuiltLaws
+pub mod FirstTest
+pub mod Header
+pub mod JoinBodies
+pub mod ReadBackData
+pub mod ReadBackJoin
+pub mod Table

@@ -1,0 +1,37 @@
+-- `encrypt_part` lends the part to `encrypt_frm_data_payload`; what stands before and after it stays.
+-- Assumes nothing.
+use Prim.Native.Nat.{ℕ, _-_}
+use mathlib.Core.Path.{_≡_, ap, _∙_}
+use mathlib.Core.List.{List, _++_}
+use lib.ListN.{take, drop}
+use borrow.Author.Needs.{needs}
+use Rattle.base.specs.Bytes.{part}
+use Rattle.base.proofs.Lent.{put-back}
+use Rattle.secure.specs.Security.{crypted, cryptedPart}
+use Rattle.secure.proofs.SecurityLaws.{crypted-start}
+use Rattle.build.proofs.creator.encrypt_part.Statement.{statement}
+use Rattle.build.proofs.creator.encrypt_part.Tie as tie
+
+returns : tie.Need-returns
+unfolding cryptedPart
+returns c =
+    let start = c .before .before .before .before .before .before .before in
+    let args = start .args in
+    let f = args .frame .now in
+    let p = part (args .start) (args .end - args .start) f in
+    let t = c .before .before .encrypt-frm-data-payload .last .1 .1 .1 .0 in
+    let done : t ≡ crypted (args .key) f (args .counter) p = cc (crypted-start (args .key) f (args .counter) p) in
+    put-back (args .start) (args .end) f t (start .pre .0)
+    ∙ ap (λ (l : List ℕ). take (args .start) f ++ l ++ drop (args .end) f) done
+
+pub encrypt-part-spec : {M : Type 1} → statement M
+encrypt-part-spec =
+    tie.close
+    (tie.spec
+    (λ c κs. search needs)
+    (λ c. search needs)
+    (λ c. search needs)
+    (λ c. search needs)
+    (λ c κs. search needs)
+    (λ c. search needs)
+    returns)
