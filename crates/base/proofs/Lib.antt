@@ -2,6 +2,7 @@ pub mod AllBytes
 pub mod Cases
 pub mod Each
 pub mod Filling
+pub mod Fixed
 pub mod Lent
 pub mod Mask
 pub mod Parts
