@@ -1,3 +1,6 @@
 pub mod Blocks
+pub mod DecryptionLaws
+pub mod Determined
+pub mod OpeningLaws
 pub mod SealingLaws
 pub mod SecurityLaws

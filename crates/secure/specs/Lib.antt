@@ -1,3 +1,4 @@
 pub mod JoinAccept
+pub mod Opening
 pub mod Sealing
 pub mod Security

@@ -1,0 +1,41 @@
+-- `decrypt_data_checked` tests and decrypts where the reading is data, and refuses by the reading where it is not.
+-- Assumes nothing.
+use mathlib.Core.Path.{sym, ap, _∙_}
+use denote.Ref.{now}
+use Rattle.secure.specs.Opening.{unopened, openedTested, dataOpenedChecked}
+use Rattle.frame.specs.Numbers.{onData}
+use Rattle.frame.proofs.Others.{not-data}
+use Rattle.frame.proofs.ReadingLaws.{data-read, data-fields}
+use borrow.Author.Needs.{needs}
+use Rattle.secure.proofs.default_crypto.decrypt_data_checked.Statement.{statement}
+use Rattle.secure.proofs.default_crypto.decrypt_data_checked.Tie as tie
+
+returns : tie.Need-returns
+unfolding dataOpenedChecked
+returns c =
+    let a = c .before .before .before .before .before .before .args in
+    cc
+    (not-data (unopened (now (a .frame)))
+    (λ d. openedTested (a .nwk-skey) (a .app-skey) (a .counter) (d .port) (now (a .frame)))
+    (c .before .before .before .read .result) (c .before .before .match .keys2))
+
+open-tested-requires : tie.Need-open-tested-requires
+open-tested-requires c κs =
+    let f = now (c .before .before .before .before .before .before .before .args .frame) in
+    let q = sym (c .before .before .before .before .read .ensures) ∙ c .before .before .reading .given .1 in
+    (data-read f q, data-fields f q)
+
+returns-2 : tie.Need-returns-2
+unfolding dataOpenedChecked
+returns-2 c =
+    let a = c .before .before .before .before .before .before .before .before .before .before .args in
+    let q = sym (c .before .before .before .before .before .before .before .read .ensures) ∙ c .before .before .before .before .before .reading .given .1 in
+    cc
+    (ap
+    (onData (λ d. openedTested (a .nwk-skey) (a .app-skey) (a .counter) (d .port) (now (a .frame))) (unopened (now (a .frame))))
+    q)
+
+pub decrypt-data-checked-spec : {M : Type 1} → statement M
+decrypt-data-checked-spec =
+    tie.close
+    (tie.spec (λ c κs. search needs) (λ c. search needs) (λ c κs. search needs) (λ c κs. search needs) (λ c. search needs) returns open-tested-requires (λ c. search needs) returns-2)

@@ -1,0 +1,130 @@
+-- What testing and opening a frame gives, from LoRaWAN 1.0: the MIC (4.4, 6.2.4, 6.2.5), the payload (4.3.3), a
+-- join-accept and its session keys (6.2.5). The refusals come in the order of document 01: reading, 5, 6; what is refused
+-- leaves every byte as it was.
+-- Assumes nothing.
+use mathlib.Core.Bool.{Bool, true}
+use mathlib.Core.List.{List, _∷_, _++_}
+use Prim.Native.Nat.{ℕ, _-_}
+use lib.Dec.{eqb}
+use lib.ListN.{length, take}
+use Rattle.base.specs.Bytes.{pick, tab, part}
+use Rattle.aes.specs.Fips197.{keyExpansion, cipher}
+use Rattle.cmac.specs.Compared.{sameBytes}
+use Rattle.frame.specs.Layout.{fcnt, headerEnd, payloadEnd, micOf}
+use Rattle.secure.specs.JoinAccept.{acceptDecrypted}
+use Rattle.frame.specs.Numbers.{portNumber, onRequest, onAccept, onData}
+use Rattle.frame.specs.Reading.{readOf}
+use Rattle.secure.specs.Security.{cryptedPart, fullCounter, dataMic, joinMic}
+use Rattle.frame.specs.declared.keys.MaybeKey.{MaybeKey}
+use Rattle.frame.specs.declared.parser.FPort.{FPort}
+use Rattle.secure.specs.declared.payload.MicTest.{MicTest}
+use Rattle.secure.specs.declared.payload.MicTest.the-variants.{Passes, Fails, Refused as RefusedTest}
+use Rattle.secure.specs.declared.payload.Opening.{Opening}
+use Rattle.secure.specs.declared.payload.Opening.the-variants.{Opened, Refused}
+use Rattle.secure.specs.declared.payload.SessionKeys.{SessionKeys}
+
+-- ---- 4.4, 6.2.4, 6.2.5 the MIC
+
+-- every byte ahead of the MIC
+abbrev pub message : List ℕ → List ℕ
+message f = take (length f - 4) f
+
+-- 6.2.4, 6.2.5 a join message under AppKey, a join-accept given clear
+unfoldable pub joinPasses : List ℕ → List ℕ → Bool
+joinPasses key f = sameBytes (micOf f) (joinMic key (message f))
+
+-- 4.4 a data message under NwkSKey and the whole 32-bit counter
+unfoldable pub dataPasses : List ℕ → ℕ → List ℕ → Bool
+dataPasses key counter f = sameBytes (micOf f) (dataMic key (message f) counter)
+
+abbrev pub answered : Bool → MicTest
+answered passes = pick passes Passes Fails
+
+unfoldable pub joinRequestTest : List ℕ → List ℕ → MicTest
+joinRequestTest key f = onRequest (answered (joinPasses key f)) RefusedTest (readOf f)
+
+unfoldable pub joinAcceptTest : List ℕ → List ℕ → MicTest
+joinAcceptTest key f = onAccept (λ n. answered (joinPasses key f)) RefusedTest (readOf f)
+
+unfoldable pub dataTest : List ℕ → ℕ → List ℕ → MicTest
+dataTest key counter f = onData (λ d. answered (dataPasses key counter f)) RefusedTest (readOf f)
+
+-- ---- opening: the answer, and the bytes of the lent frame as the call returns
+
+pub record Result : Type 0 where
+  pub answer : Opening
+  pub bytes : List ℕ
+
+abbrev pub result : Opening → List ℕ → Result
+result a f = record { answer = a; bytes = f }
+
+-- a refusal leaves the frame as it was
+abbrev pub unopened : List ℕ → ℕ → ℕ → Result
+unopened f number place = result (Refused number place) f
+
+-- ---- 4.3.3 the payload of a data frame
+
+-- port 0 or absent selects NwkSKey, another port AppSKey
+abbrev pub selected : FPort → MaybeKey → MaybeKey → MaybeKey
+selected port nwk app = pick (eqb (portNumber port) 0) nwk app
+
+-- the payload decrypted where it lies: the counter's high half is the caller's, its low half the frame's
+unfoldable pub decrypted : List ℕ → ℕ → List ℕ → List ℕ
+decrypted key counter f = cryptedPart key f (fullCounter counter (fcnt f)) (headerEnd f) (payloadEnd f)
+
+-- 6 where the key was not given
+unfoldable pub openedUnder : MaybeKey → ℕ → List ℕ → Result
+openedUnder key counter f = pick (key .given) (result Opened (decrypted (key .key) counter f)) (unopened f 6 0)
+
+unfoldable pub dataOpened : MaybeKey → MaybeKey → ℕ → List ℕ → Result
+dataOpened nwk app counter f =
+    onData (λ d. openedUnder (selected (d .port) nwk app) counter f) (unopened f) (readOf f)
+
+abbrev pub givenKey : List ℕ → MaybeKey
+givenKey key = record { given = true; key = key }
+
+-- 4.4 before it: 5 where the MIC differs
+unfoldable pub openedTested : List ℕ → MaybeKey → ℕ → FPort → List ℕ → Result
+openedTested nwk app counter port f =
+    pick (dataPasses nwk counter f) (openedUnder (selected port (givenKey nwk) app) counter f) (unopened f 5 0)
+
+unfoldable pub dataOpenedChecked : List ℕ → MaybeKey → ℕ → List ℕ → Result
+dataOpenedChecked nwk app counter f =
+    onData (λ d. openedTested nwk app counter (d .port) f) (unopened f) (readOf f)
+
+-- ---- 6.2.5 a join-accept
+
+unfoldable pub acceptOpened : List ℕ → List ℕ → Result
+acceptOpened key f = onAccept (λ n. result Opened (acceptDecrypted key f)) (unopened f) (readOf f)
+
+-- 5 where the MIC of the clear text differs
+unfoldable pub acceptTested : List ℕ → List ℕ → Result
+acceptTested key f =
+    pick (joinPasses key (acceptDecrypted key f)) (result Opened (acceptDecrypted key f)) (unopened f 5 0)
+
+unfoldable pub acceptOpenedChecked : List ℕ → List ℕ → Result
+acceptOpenedChecked key f = onAccept (λ n. acceptTested key f) (unopened f) (readOf f)
+
+-- ---- 6.2.5 session keys: AES under AppKey of 1 (NwkSKey) or 2 (AppSKey), AppNonce, NetID, DevNonce, and zeros
+
+unfoldable pub keyBlock : ℕ → List ℕ → List ℕ → List ℕ → List ℕ
+keyBlock first appNonce netId devNonce = first ∷ (appNonce ++ (netId ++ (devNonce ++ tab 7 (λ i. 0))))
+
+unfoldable pub sessionKey : ℕ → List ℕ → List ℕ → List ℕ → List ℕ
+sessionKey first key devNonce f = cipher (keyExpansion key) (keyBlock first (part 1 3 f) (part 4 3 f) devNonce)
+
+unfoldable pub derivedKeys : List ℕ → List ℕ → List ℕ → SessionKeys
+derivedKeys key devNonce f =
+    record {
+      number = 0;
+      place = 0;
+      «nwk_skey» = sessionKey 1 key devNonce f;
+      «app_skey» = sessionKey 2 key devNonce f;
+    }
+
+unfoldable pub noKeys : ℕ → ℕ → SessionKeys
+noKeys number place =
+    record { number = number; place = place; «nwk_skey» = tab 16 (λ i. 0); «app_skey» = tab 16 (λ i. 0) }
+
+unfoldable pub sessionKeys : List ℕ → List ℕ → List ℕ → SessionKeys
+sessionKeys key devNonce f = onAccept (λ n. derivedKeys key devNonce f) noKeys (readOf f)
