@@ -1,0 +1,4 @@
+pub mod Accessor
+pub mod Determined
+pub mod Fields
+pub mod Made

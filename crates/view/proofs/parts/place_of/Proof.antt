@@ -1,0 +1,37 @@
+-- `view::parts::place_of` meets its contract: its tests are those by which the definition picks.
+-- Assumes nothing.
+use borrow.Author.Needs.{needs}
+use borrow.Author.Tests.{eq-eqb, ne-eqb}
+use Rattle.view.specs.Parts.{placeOf}
+use Rattle.view.proofs.parts.place_of.Statement.{statement}
+use Rattle.view.proofs.parts.place_of.Tie as tie
+
+returns : tie.Need-returns
+unfolding placeOf
+returns c = simp (ne-eqb _ _ (c .if1 .taken))
+
+returns-2 : tie.Need-returns-2
+unfolding placeOf
+returns-2 c = simp (eq-eqb _ _ (c .before .before .before .if1 .left), eq-eqb _ _ (c .before .if2 .taken)) (c .join-place .ensures)
+
+returns-3 : tie.Need-returns-3
+unfolding placeOf
+returns-3 c =
+    simp (
+      eq-eqb _ _ (c .before .before .before .before .if1 .left),
+      ne-eqb _ _ (c .before .before .if2 .left),
+      eq-eqb _ _ (c .if3 .taken),
+    )
+
+returns-4 : tie.Need-returns-4
+unfolding placeOf
+returns-4 c =
+    simp (
+      eq-eqb _ _ (c .before .before .before .before .before .if1 .left),
+      ne-eqb _ _ (c .before .before .before .if2 .left),
+      ne-eqb _ _ (c .before .if3 .left),
+    )
+    (c .data-place .ensures)
+
+pub place-of-spec : {M : Type 1} → statement M
+place-of-spec = tie.close (tie.spec returns (λ c κs. search needs) returns-2 returns-3 (λ c κs. search needs) returns-4)
