@@ -1,4 +1,5 @@
 pub mod Column
+pub mod Determined
 pub mod Examples
 pub mod FieldLaws
 pub mod Growing

@@ -1,7 +1,8 @@
 -- The promise of each public call fixes its answer: two answers that satisfy it at the same arguments are equal, also
 -- at a state that no call made. It is said of the contract itself, and holds since each promise is an equation.
 -- Assumes nothing.
-use mathlib.Core.Path.{_≡_, sym, _∙_}
+use mathlib.Core.Path.{sym, _∙_}
+use Rattle.base.proofs.Fixed.{Determined}
 use Rattle.cmac.proofs.next_chain.Reads as next-chain
 use Rattle.cmac.proofs.Cmac.new.Reads as new
 use Rattle.cmac.proofs.Cmac.with_schedule.Reads as with-schedule
@@ -11,11 +12,6 @@ use Rattle.cmac.proofs.Cmac.finish.Reads as finish
 use Rattle.cmac.proofs.tag.Reads as tag
 use Rattle.cmac.proofs.mic_of.Reads as mic-of
 use Rattle.cmac.proofs.same_mic.Reads as same-mic
-
--- post is what a call ensures, of its arguments, its answer and what it was lent as it returns
-abbrev pub Determined : {K : Type 0} {D R S : K → Type 0} → ((κs : K) → D κs → R κs → S κs → Type 0) → Type 0
-Determined {K} {D} {R} {S} post =
-    (κs : K) (a : D κs) (x y : R κs) (s t : S κs) → post κs a x s → post κs a y t → x ≡ y
 
 pub next-chain-determined : Determined next-chain.Learnt
 next-chain-determined κs a x y s t p q = p ∙ sym q

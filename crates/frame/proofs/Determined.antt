@@ -1,7 +1,8 @@
 -- The promise of each public call fixes its answer: two answers that satisfy it at the same arguments are equal. It is
 -- said of the contract itself, once for all calls, and holds of each since its promise is an equation.
 -- Assumes nothing.
-use mathlib.Core.Path.{_≡_, sym, _∙_}
+use mathlib.Core.Path.{sym, _∙_}
+use Rattle.base.proofs.Fixed.{Determined}
 use Rattle.frame.proofs.parser.read.Reads as read
 use Rattle.frame.proofs.parser.join_request_fields.Reads as join-request-fields
 use Rattle.frame.proofs.parser.join_accept_fields.Reads as join-accept-fields
@@ -12,6 +13,11 @@ use Rattle.frame.proofs.parser.nwk_id.Reads as nwk-id
 use Rattle.frame.proofs.parser.number_of.Reads as number-of
 use Rattle.frame.proofs.parser.place_of.Reads as place-of
 use Rattle.frame.proofs.parser.other_number.Reads as other-number
+use Rattle.frame.proofs.parser.port_number.Reads as port-number
+use Rattle.frame.proofs.parser.payload_to.Reads as payload-to
+use Rattle.frame.proofs.parser.payload_from.Reads as payload-from
+use Rattle.frame.proofs.parser.payload_kind.Reads as payload-kind
+use Rattle.frame.proofs.parser.port_given.Reads as port-given
 use Rattle.frame.proofs.parser.values_of.Reads as values-of
 use Rattle.frame.proofs.parser.FCtrl.new.Reads as fctrl-new
 use Rattle.frame.proofs.parser.FCtrl.adr.Reads as adr
@@ -24,11 +30,6 @@ use Rattle.frame.proofs.parser.FCtrl.with_adr.Reads as with-adr
 use Rattle.frame.proofs.parser.FCtrl.with_adr_ack_req.Reads as with-adr-ack-req
 use Rattle.frame.proofs.parser.FCtrl.with_ack.Reads as with-ack
 use Rattle.frame.proofs.parser.FCtrl.with_f_pending.Reads as with-f-pending
-
--- post is what a call ensures, of its arguments, its answer and what it was lent as it returns
-abbrev pub Determined : {K : Type 0} {D R S : K → Type 0} → ((κs : K) → D κs → R κs → S κs → Type 0) → Type 0
-Determined {K} {D} {R} {S} post =
-    (κs : K) (a : D κs) (x y : R κs) (s t : S κs) → post κs a x s → post κs a y t → x ≡ y
 
 pub read-determined : Determined read.Learnt
 read-determined κs a x y s t p q = p ∙ sym q
@@ -95,3 +96,18 @@ with-f-pending-determined κs a x y s t p q = p ∙ sym q
 
 pub values-of-determined : Determined values-of.Learnt
 values-of-determined κs a x y s t p q = p ∙ sym q
+
+pub port-number-determined : Determined port-number.Learnt
+port-number-determined κs a x y s t p q = p ∙ sym q
+
+pub port-given-determined : Determined port-given.Learnt
+port-given-determined κs a x y s t p q = p ∙ sym q
+
+pub payload-kind-determined : Determined payload-kind.Learnt
+payload-kind-determined κs a x y s t p q = p ∙ sym q
+
+pub payload-from-determined : Determined payload-from.Learnt
+payload-from-determined κs a x y s t p q = p ∙ sym q
+
+pub payload-to-determined : Determined payload-to.Learnt
+payload-to-determined κs a x y s t p q = p ∙ sym q

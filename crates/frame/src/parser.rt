@@ -403,8 +403,8 @@ pub fn other_number(reading: Reading) -> u8
     }
 }
 
-// Whether a port is reported, and its number (0 where it is not).
-fn port_given(port: FPort) -> bool
+// Whether a port is reported.
+pub fn port_given(port: FPort) -> bool
     ensures { λ r. ⌜ r ≡ portGiven port ⌝ }
 {
     match port {
@@ -413,7 +413,8 @@ fn port_given(port: FPort) -> bool
     }
 }
 
-fn port_number(port: FPort) -> u8
+// The port that is reported, and 0 where there is none.
+pub fn port_number(port: FPort) -> u8
     ensures { λ r. ⌜ r ≡ portNumber port ⌝ }
 {
     match port {
@@ -422,8 +423,8 @@ fn port_number(port: FPort) -> u8
     }
 }
 
-// The kind of a payload (0 none, 1 data, 2 commands), the place of its first byte and the place past its last.
-fn payload_kind(payload: FrmPayload) -> u8
+// The kind of a payload: 0 none, 1 data, 2 commands.
+pub fn payload_kind(payload: FrmPayload) -> u8
     ensures { λ r. ⌜ r ≡ payloadKind payload ⌝ }
 {
     match payload {
@@ -433,7 +434,8 @@ fn payload_kind(payload: FrmPayload) -> u8
     }
 }
 
-fn payload_from(payload: FrmPayload) -> usize
+// The place of a payload's first byte.
+pub fn payload_from(payload: FrmPayload) -> usize
     ensures { λ r. ⌜ r ≡ payloadFrom payload ⌝ }
 {
     match payload {
@@ -443,7 +445,8 @@ fn payload_from(payload: FrmPayload) -> usize
     }
 }
 
-fn payload_to(payload: FrmPayload) -> usize
+// The place past a payload's last byte.
+pub fn payload_to(payload: FrmPayload) -> usize
     ensures { λ r. ⌜ r ≡ payloadTo payload ⌝ }
 {
     match payload {

@@ -1,22 +1,13 @@
 -- The promise of each building fixes its answer and the whole output: two outcomes that satisfy it at the same arguments are
 -- equal. It is said of the contract itself, and holds since each promise is a pair of equations.
 -- Assumes nothing.
-use mathlib.Core.Path.{_≡_, sym, _∙_}
-use mathlib.Core.List.{List}
-use Prim.Native.Nat.{ℕ}
+use mathlib.Core.Path.{sym, _∙_}
 use denote.Ref.{now}
-use Rattle.frame.proofs.Determined.{Determined}
+use Rattle.base.proofs.Fixed.{Determined, DeterminedLent}
 use Rattle.build.proofs.creator.build_data.Reads as build-data
 use Rattle.build.proofs.creator.build_join_accept.Reads as build-join-accept
 use Rattle.build.proofs.creator.build_join_request.Reads as build-join-request
 use Rattle.build.proofs.creator.can_piggyback.Reads as can-piggyback
-
--- the same, of what was lent too
-abbrev pub DeterminedLent : {K : Type 0} {D R S : K → Type 0} → ((κs : K) → S κs → List ℕ)
-    → ((κs : K) → D κs → R κs → S κs → Type 0)
-    → Type 0
-DeterminedLent {K} {D} {R} {S} lent post =
-    (κs : K) (a : D κs) (x y : R κs) (s t : S κs) → post κs a x s → post κs a y t → (x ≡ y) × (lent κs s ≡ lent κs t)
 
 pub build-data-determined : DeterminedLent (λ κs s. now (s .1 .1 .1 .1 .1 .0)) build-data.Learnt
 build-data-determined κs a x y s t p q = (p .answer ∙ sym (q .answer), p .output ∙ sym (q .output))

@@ -1,0 +1,13 @@
+// Reads one frame as raw bytes from standard input and writes its text to standard output (document 01, "Examples").
+use libc::STDIN_FILENO;
+use libc::STDOUT_FILENO;
+use text::TEXT_ROOM;
+
+fn main() {
+    // One byte more than the longest frame: an input that fills it is too long, however long it is.
+    let mut frame = [0u8; 256];
+    let n = io::read_full(STDIN_FILENO, &mut frame);
+    let mut out = [0u8; TEXT_ROOM];
+    let length = text::describe(&frame[..n], &mut out);
+    io::write_all(STDOUT_FILENO, &out[..length]);
+}

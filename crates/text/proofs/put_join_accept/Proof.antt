@@ -1,0 +1,27 @@
+-- `text::put_join_accept` meets its contract: its two lines, one after the other.
+-- Assumes nothing.
+use native.Mathlib.Omega.{arith}
+use borrow.Author.Needs.{needs}
+use Rattle.base.proofs.Put.{then}
+use Rattle.text.specs.Text.{typeWord, joinAcceptText}
+use Rattle.text.proofs.Lengths.{length-numberLine}
+use Rattle.text.proofs.put_join_accept.Statement.{statement}
+use Rattle.text.proofs.put_join_accept.Tie as tie
+
+put-number-line-requires-2 : tie.Need-put-number-line-requires-2
+put-number-line-requires-2 c κs = omega (arith, c .before .before .before .before .put-number-line, c .before .before .before .before .before .before .before .before .pre, length-numberLine typeWord 1)
+
+returns : tie.Need-returns
+unfolding joinAcceptText
+returns c = then (c .before .before .before .before .before .before .before .put-number-line .ensures) (c .before .before .put-number-line2 .ensures)
+
+pub put-join-accept-spec : {M : Type 1} → statement M
+put-join-accept-spec =
+    tie.close
+    (tie.spec
+    (λ c. search needs)
+    (λ c κs. search needs)
+    (λ c. search needs)
+    put-number-line-requires-2
+    (λ c. search needs)
+    returns)

@@ -1,0 +1,86 @@
+-- `text::put_rest` meets its contract: its four lines, one after the other. Each has room, since the lines ahead of it
+-- are no longer than their laws say.
+-- Assumes nothing.
+use mathlib.Core.Path.{ap}
+use Prim.Native.Nat.{_-_}
+use native.Mathlib.Omega.{arith}
+use borrow.Author.Needs.{needs}
+use lib.ListN.{length}
+use Rattle.base.proofs.Put.{then}
+use Rattle.base.proofs.Pieces.{same}
+use Rattle.text.specs.Text.{foptsWord, micWord, hexLine, restText}
+use Rattle.text.proofs.Fields.{Fields, fields, mic-part}
+use Rattle.text.proofs.Lengths.{length-numberLine, length-portLine, length-payloadLine, length-part}
+use Rattle.text.proofs.put_rest.Statement.{statement}
+use Rattle.text.proofs.put_rest.Tie as tie
+
+-- where the frame's fields lie
+known : (c : tie.Start) → Fields (c .args .frame .now) (c .args .d)
+known c = fields (c .args .frame .now) (c .args .d) (c .pre .0) (c .pre .1 .0)
+
+sub-put-number-line : tie.Need-sub-put-number-line
+sub-put-number-line c = known (c .before .before .before .before .before) .fopts-from
+
+put-number-line-requires : tie.Need-put-number-line-requires
+put-number-line-requires c κs = omega (arith, known (c .before .before .before .before .before), c .before .before .before .before .before .pre)
+
+put-port-line-requires : tie.Need-put-port-line-requires
+put-port-line-requires c κs =
+    omega (arith, c .before .before .before .put-number-line, c .before .before .before .before .before .before .before .before .before .pre, length-numberLine foptsWord (c .before .before .before .before .before .before .before .before .before .args .d .«fopts_end» - 8))
+
+put-payload-line-requires : tie.Need-put-payload-line-requires
+put-payload-line-requires c κs = (
+  known (c .before .before .before .before .before .before .before .before .before .before .before .before .before) .spans,
+  omega (
+    arith,
+    c .before .before .before .before .before .before .before .put-number-line,
+    c .before .before .before .put-port-line,
+    c .before .before .before .before .before .before .before .before .before .before .before .before .before .pre,
+    length-numberLine foptsWord (c .before .before .before .before .before .before .before .before .before .before .before .before .before .args .d .«fopts_end» - 8),
+    length-portLine (c .before .before .before .before .before .before .before .before .before .before .before .before .before .args .d .port),
+  ),
+)
+
+sub-put-hex-line : tie.Need-sub-put-hex-line
+sub-put-hex-line c = omega (arith, known (c .before .before .before .before .before .before .before .before .before .before .before .before .before .before .before .before .before .before))
+
+part-put-hex-line-start : tie.Need-part-put-hex-line-start
+part-put-hex-line-start c = omega (arith, known (c .before .before .before .before .before .before .before .before .before .before .before .before .before .before .before .before .before .before))
+
+put-hex-line-requires : tie.Need-put-hex-line-requires
+put-hex-line-requires c κs =
+    omega (
+      arith,
+      known (c .before .before .before .before .before .before .before .before .before .before .before .before .before .before .before .before .before .before .before),
+      c .before .before .before .before .before .before .before .before .before .before .before .before .before .put-number-line,
+      c .before .before .before .before .before .before .before .before .before .put-port-line,
+      c .before .before .before .before .before .put-payload-line,
+      c .before .before .before .before .before .before .before .before .before .before .before .before .before .before .before .before .before .before .before .pre,
+      length-numberLine foptsWord (c .before .before .before .before .before .before .before .before .before .before .before .before .before .before .before .before .before .before .before .args .d .«fopts_end» - 8),
+      length-portLine (c .before .before .before .before .before .before .before .before .before .before .before .before .before .before .before .before .before .before .before .args .d .port),
+      length-payloadLine (c .before .before .before .before .before .before .before .before .before .before .before .before .before .before .before .before .before .before .before .args .d .payload),
+      length-part (c .before .before .before .before .before .before .before .before .before .before .before .before .before .before .before .before .before .before .before .args .d .mic) (length (c .before .before .before .before .before .before .before .before .before .before .before .before .before .before .before .before .before .before .before .args .frame .now) - c .before .before .before .before .before .before .before .before .before .before .before .before .before .before .before .before .before .before .before .args .d .mic) (c .before .before .before .before .before .before .before .before .before .before .before .before .before .before .before .before .before .before .before .args .frame .now),
+    )
+
+returns : tie.Need-returns
+unfolding restText
+returns c =
+    then (then (then (c .before .before .before .before .before .before .before .before .before .before .before .before .before .before .before .before .put-number-line .ensures) (c .before .before .before .before .before .before .before .before .before .before .before .before .put-port-line .ensures)) (c .before .before .before .before .before .before .before .before .put-payload-line .ensures))
+    (same (ap (hexLine micWord) (mic-part (c .before .before .before .before .before .before .before .before .before .before .before .before .before .before .before .before .before .before .before .before .before .before .args .frame .now) (c .before .before .before .before .before .before .before .before .before .before .before .before .before .before .before .before .before .before .before .before .before .before .args .d .mic) (known (c .before .before .before .before .before .before .before .before .before .before .before .before .before .before .before .before .before .before .before .before .before .before) .mic-at))) (c .before .before .put-hex-line .ensures))
+
+pub put-rest-spec : {M : Type 1} → statement M
+put-rest-spec =
+    tie.close
+    (tie.spec
+    (λ c. search needs)
+    sub-put-number-line
+    put-number-line-requires
+    put-port-line-requires
+    put-payload-line-requires
+    (λ c. search needs)
+    sub-put-hex-line
+    part-put-hex-line-start
+    (λ c. search needs)
+    put-hex-line-requires
+    (λ c. search needs)
+    returns)
