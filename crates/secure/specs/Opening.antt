@@ -2,7 +2,7 @@
 -- join-accept and its session keys (6.2.5). The refusals come in the order of document 01: reading, 5, 6; what is refused
 -- leaves every byte as it was.
 -- Assumes nothing.
-use mathlib.Core.Bool.{Bool, true}
+use mathlib.Core.Bool.{Bool, true, false}
 use mathlib.Core.List.{List, _∷_, _++_}
 use Prim.Native.Nat.{ℕ, _-_}
 use lib.Dec.{eqb}
@@ -49,7 +49,32 @@ joinAcceptTest key f = onAccept (λ n. answered (joinPasses key f)) RefusedTest 
 unfoldable pub dataTest : List ℕ → ℕ → List ℕ → MicTest
 dataTest key counter f = onData (λ d. answered (dataPasses key counter f)) RefusedTest (readOf f)
 
+-- its number (0 where the test was made), its place, and whether it passes
+abbrev pub testNumber : MicTest → ℕ
+testNumber Passes = 0
+testNumber Fails = 0
+testNumber (RefusedTest n p) = n
+
+abbrev pub testPlace : MicTest → ℕ
+testPlace Passes = 0
+testPlace Fails = 0
+testPlace (RefusedTest n p) = p
+
+abbrev pub testPasses : MicTest → Bool
+testPasses Passes = true
+testPasses Fails = false
+testPasses (RefusedTest n p) = false
+
 -- ---- opening: the answer, and the bytes of the lent frame as the call returns
+
+-- its number (0 where the frame was opened) and its place
+abbrev pub openingNumber : Opening → ℕ
+openingNumber Opened = 0
+openingNumber (Refused n p) = n
+
+abbrev pub openingPlace : Opening → ℕ
+openingPlace Opened = 0
+openingPlace (Refused n p) = p
 
 pub record Result : Type 0 where
   pub answer : Opening
