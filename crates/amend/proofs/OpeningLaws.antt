@@ -1,0 +1,173 @@
+-- What opening computes is what its definition says: the first chain value comes of B_0, carrying on gives the rest, the
+-- MIC from the last of them is that of the frame, and the bytes that are stored are the frame with zeros behind.
+-- Assumes nothing.
+use mathlib.Core.Path.{_≡_, refl, sym, ap, ap₂, _∙_, subst}
+use mathlib.Core.List.{List, [], _∷_, _++_, append-nil}
+use Prim.Native.Nat.{ℕ, zero, suc, _+_, _-_, _*_, _/_, _%_, _≤_, _<_}
+use native.Mathlib.Omega.{arith}
+use lib.ListN.{length, take, drop, replicate, length-replicate, getD-replicate, length-drop}
+use lib.Seq.{sets, sets-eq, length-sets, getD-drop, take-at, take-take, length-take-le}
+use borrow.Author.Tests.{eq-eqb, ne-eqb}
+use denote.Enum.Declared.{tagOf}
+use types.Run.{OneOf}
+use Rattle.base.specs.Bytes.{at, part, xorL}
+use Rattle.base.proofs.Tab.{tab-at, same-at}
+use Rattle.base.proofs.Lent.{part-long}
+use Rattle.base.proofs.Parts.{at-part}
+use Rattle.aes.specs.Fips197.{keyExpansion, cipher}
+use Rattle.aes.proofs.Laws.{cipher-long}
+use Rattle.cmac.specs.Rfc4493.{zeros, chain, tag, mac, mic}
+use Rattle.cmac.proofs.Laws.{chain-zero, chain-suc}
+use Rattle.frame.specs.Conditions.{IsData}
+use Rattle.frame.specs.Layout.{fcnt, micOf}
+use Rattle.frame.specs.Numbers.{otherNumber, placeOf, onData}
+use Rattle.frame.specs.Reading.{dataOf, readOf}
+use Rattle.frame.specs.declared.parser.DataFrame.{DataFrame}
+use Rattle.frame.specs.declared.parser.Reading.the-variants.{Data}
+use Rattle.frame.proofs.Others.{not-data}
+use Rattle.frame.proofs.ReadingLaws.{reads-data, data-fields}
+use Rattle.frame.proofs.parser.Reading as R
+use Rattle.secure.specs.Security.{startOf, helperBlock, dataMic}
+use Rattle.secure.proofs.SecurityLaws.{helperBlock-long, helperBlock-start, helperBlock-same}
+use Rattle.amend.specs.Amending.{state, lastBlock, chained, signedFrom}
+use Rattle.amend.specs.declared.Open.{Open}
+use Rattle.amend.specs.Opening.{held, covered, message, chainsOf, openedOf, refusedOpening, openChecked, openData, openOf}
+use Rattle.amend.proofs.Stores.{part-after, part-stored}
+use Rattle.amend.proofs.Chains.{Right, table-right, carried-table, block-behind, signed-right}
+
+-- a part of zeros
+part-zeros : (i n k : ℕ) → i + n ≤ k → part i n (replicate {A = ℕ} k 0) ≡ replicate {A = ℕ} n 0
+part-zeros i n k h =
+    same-at n (part i n (replicate {A = ℕ} k 0)) (replicate {A = ℕ} n 0)
+    (part-long i n (replicate {A = ℕ} k 0) (omega (arith, length-replicate {A = ℕ} k 0)))
+    (length-replicate {A = ℕ} n 0)
+    (λ j l.
+    at-part i n (replicate {A = ℕ} k 0) j l
+    ∙ getD-replicate {A = ℕ} k (i + j) 0 0 (omega arith)
+    ∙ sym (getD-replicate {A = ℕ} n j 0 0 l))
+
+-- B_0 of what is covered, from the frame's first five bytes
+pub first-block : (f : List ℕ) (counter : ℕ) → 12 ≤ length f → length f ≤ 255
+    → helperBlock 0x49 (startOf f) counter (length f - 4) ++ covered f ≡ message (covered f) counter
+unfolding message
+first-block f counter lo hi =
+    let n = length f - 4 in
+    let long : length (covered f) ≡ n = length-take-le n f (omega arith) in
+    let count : n ≡ length (covered f) % 256 = omega arith in
+    ap (λ (b : List ℕ). b ++ covered f)
+    (helperBlock-start 0x49 f counter n
+    ∙ sym (helperBlock-same (covered f) f (take-take 5 n f (omega arith)) 0x49 counter n)
+    ∙ ap (helperBlock 0x49 (covered f) counter) count)
+
+module _ (ks f : List ℕ) (counter : ℕ) (lo : 12 ≤ length f) (hi : length f ≤ 255) where
+  -- the chain values that opening computes
+  pub opened-table : (b : List ℕ) → b ≡ helperBlock 0x49 (startOf f) counter (length f - 4)
+      → chained ks f (lastBlock (length f - 4) - 0) 0 (sets (replicate {A = ℕ} 256 0) 0 (cipher ks (xorL zeros b)))
+      ≡ chainsOf ks (message (covered f) counter) (lastBlock (length f - 4))
+  opened-table b eb =
+      let n = length f - 4 in
+      let last = lastBlock n in
+      let m = b ++ covered f in
+      let x = cipher ks (xorL zeros b) in
+      let none = replicate {A = ℕ} 256 0 in
+      let b-long : length b ≡ 16 = ap length eb ∙ helperBlock-long 0x49 (startOf f) counter n in
+      let x-long : length x ≡ 16 = cipher-long ks (xorL zeros b) in
+      let none-long : length none ≡ 256 = length-replicate {A = ℕ} 256 0 in
+      let first : chain ks m 1 ≡ x =
+      chain-suc ks m 0
+      ∙ ap₂ (λ (y p : List ℕ). cipher ks (xorL y p)) (chain-zero ks m) (take-at b (covered f) 16 b-long) in
+      let right : Right ks m (sets none 0 x) 0 = part-stored none 0 16 x x-long (omega arith) ∙ sym first in
+      carried-table ks m last f (sets none 0 x) 0 (length-sets none 0 x ∙ none-long) (omega arith) (omega arith)
+      (λ j l.
+      let here : 0 ≡ j = omega arith in
+      subst (λ (i : ℕ). Right ks m (sets none 0 x) i) here right)
+      (λ j l g. part-after (16 * j) 16 none 0 x (omega arith) ∙ part-zeros (16 * j) 16 256 (omega arith))
+      (λ j l g. block-behind b f n j b-long (omega arith))
+      ∙ ap (λ (q : List ℕ). chainsOf ks q last)
+      (ap (λ (q : List ℕ). q ++ covered f) eb ∙ first-block f counter lo hi)
+
+-- the MIC of the first n bytes, from the chain values of the message that they make
+pub signed-mic : (nwk g : List ℕ) (counter n : ℕ) → 0 < n → n ≤ 251 → n ≤ length g
+    → signedFrom (keyExpansion nwk) g n (chainsOf (keyExpansion nwk) (message (take n g) counter) (lastBlock n))
+    ≡ dataMic nwk (take n g) counter
+unfolding dataMic mic mac message
+signed-mic nwk g counter n lo hi inside =
+    let ks = keyExpansion nwk in
+    let b = helperBlock 0x49 (take n g) counter (length (take n g) % 256) in
+    let m = b ++ take n g in
+    signed-right ks b g n (chainsOf ks m (lastBlock n)) (helperBlock-long 0x49 (take n g) counter (length (take n g) % 256)) lo
+    inside (table-right ks m (lastBlock n) (lastBlock n) (omega arith) (omega arith))
+
+-- the same from an opened state
+pub state-mic : (f nwk app : List ℕ) (counter : ℕ) (s : Open) → 12 ≤ length f → length f ≤ 255
+    → s ≡ openedOf f nwk app counter
+    → signedFrom (s .«nwk_schedule») f (length f - 4) (s .chains) ≡ dataMic nwk (covered f) counter
+unfolding openedOf
+state-mic f nwk app counter s lo hi e =
+    ap (λ (o : Open). signedFrom (o .«nwk_schedule») f (length f - 4) (o .chains)) e
+    ∙ signed-mic nwk f counter (length f - 4) (omega arith) (omega arith) (omega arith)
+
+-- the frame stored at the front of 255 zeros
+pub stored-frame : (f : List ℕ) → length f ≤ 255 → sets (replicate {A = ℕ} 255 0) 0 f ≡ held f
+unfolding held
+stored-frame f h =
+    let long : length (replicate {A = ℕ} 255 0) ≡ 255 = length-replicate {A = ℕ} 255 0 in
+    let rest : drop (0 + length f) (replicate {A = ℕ} 255 0) ≡ replicate {A = ℕ} (255 - length f) 0 =
+    same-at (255 - length f) (drop (0 + length f) (replicate {A = ℕ} 255 0)) (replicate {A = ℕ} (255 - length f) 0)
+    (omega (arith, length-drop (0 + length f) (replicate {A = ℕ} 255 0)))
+    (length-replicate {A = ℕ} (255 - length f) 0)
+    (λ j l.
+    getD-drop (0 + length f) (replicate {A = ℕ} 255 0) j 0
+    ∙ getD-replicate {A = ℕ} 255 (0 + length f + j) 0 0 (omega arith)
+    ∙ sym (getD-replicate {A = ℕ} (255 - length f) j 0 0 l)) in
+    sets-eq f (replicate {A = ℕ} 255 0) 0 (omega arith) ∙ ap (λ (l : List ℕ). f ++ l) rest
+
+-- the state by what the code computes
+pub opened-is : (f nwk app : List ℕ) (counter : ℕ) {g ks ks′ chains : List ℕ} → g ≡ held f → ks ≡ keyExpansion nwk
+    → ks′ ≡ keyExpansion app → chains ≡ chainsOf ks (message (covered f) counter) (lastBlock (length f - 4))
+    → state g (length f) ks ks′ counter chains ≡ openedOf f nwk app counter
+unfolding openedOf
+opened-is f nwk app counter {g} {ks} {ks′} {chains} hg hk hk′ hc =
+    let m = message (covered f) counter in
+    let last = lastBlock (length f - 4) in
+    ap₂ (λ (x y : List ℕ). state x (length f) ks ks′ counter y) hg hc
+    ∙ ap₂ (λ (x y : List ℕ). state (held f) (length f) x y counter (chainsOf x m last)) hk hk′
+
+-- the last four bytes one by one
+pub mic-bytes : (f : List ℕ) → 4 ≤ length f
+    → at f (length f - 4) ∷ at f (length f - 4 + 1) ∷ at f (length f - 4 + 2) ∷ at f (length f - 4 + 3) ∷ [] ≡ micOf f
+mic-bytes f h =
+    let n = length f - 4 in
+    let zero-on : n + 0 ≡ n = omega arith in
+    sym
+    (tab-at (micOf f) 4 (omega (arith, length-drop n f))
+    ∙ ap₂ (λ (a b : ℕ). a ∷ b ∷ at (micOf f) 2 ∷ at (micOf f) 3 ∷ [])
+    (getD-drop n f 0 0 ∙ ap (at f) zero-on)
+    (getD-drop n f 1 0)
+    ∙ ap₂ (λ (a b : ℕ). at f n ∷ at f (n + 1) ∷ a ∷ b ∷ []) (getD-drop n f 2 0) (getD-drop n f 3 0))
+
+-- ---- the answers
+
+module _ (f nwk app : List ℕ) (counter : ℕ) where
+  pub open-data : IsData f → openOf f nwk app counter ≡ openData f nwk app counter
+  unfolding openOf
+  open-data h = ap (onData (λ d. openData f nwk app counter) refusedOpening) (reads-data f h)
+
+  pub counter-right : counter % 65536 ≡ fcnt f → openData f nwk app counter ≡ openChecked f nwk app counter
+  unfolding openData
+  counter-right e = simp (eq-eqb (counter % 65536) (fcnt f) e)
+
+  pub counter-wrong : (counter % 65536 ≡ fcnt f → ⊥) → openData f nwk app counter ≡ refusedOpening 14 0
+  unfolding openData
+  counter-wrong n = simp (ne-eqb (counter % 65536) (fcnt f) n)
+
+  -- a reading of another type
+  pub open-other : OneOf (0 ∷ 1 ∷ 3 ∷ []) (tagOf R.the-type (readOf f))
+      → openOf f nwk app counter ≡ refusedOpening (otherNumber (readOf f)) (placeOf (readOf f))
+  unfolding openOf
+  open-other h = not-data refusedOpening (λ d. openData f nwk app counter) (readOf f) h
+
+-- the counter that a reading holds is the frame's
+pub read-fcnt : (f : List ℕ) {d : DataFrame} → readOf f ≡ Data d → d .fcnt ≡ fcnt f
+unfolding dataOf
+read-fcnt f e = ap (λ (d : DataFrame). d .fcnt) (data-fields f e)

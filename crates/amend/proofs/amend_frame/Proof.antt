@@ -1,0 +1,88 @@
+-- `amend_frame` opens, applies the list and stores the frame where nothing was refused. Assumes nothing.
+use Prim.Native.Nat.{ℕ, _+_, _≤_}
+use mathlib.Core.Path.{_≡_, sym, _∙_}
+use native.Mathlib.Omega.{arith}
+use borrow.Author.Needs.{needs}
+use lib.ListN.{length, take}
+use lib.Seq.{length-take-le}
+use Rattle.amend.proofs.ListLaws.{accepted-most, refused-opening, whole-list, refused-list, whole-stored}
+use Rattle.amend.proofs.amend_frame.Statement.{statement}
+use Rattle.amend.proofs.amend_frame.Tie as tie
+
+returns : tie.Need-returns
+returns c =
+    let args = c .before .before .before .before .before .before .args in
+    let o = c .before .before .open-frame in
+    refused-opening (args .frame .now) (args .nwk-skey) (args .app-skey) (args .counter) (args .amendments .now) (o .result) (o .ensures)
+    (c .if1 .taken)
+
+-- the frame in the last state has 255 bytes
+held-long : (c : tie.After-amend-all) → length (c .amend-all .result .state .frame) ≡ 255
+held-long c = search needs
+
+-- and the lent one no more
+fits : (c : tie.After-amend-all) → length (c .before .before .before .before .before .before .before .before .args .frame .now) ≤ length (c .amend-all .result .state .frame)
+fits c =
+    let args = c .before .before .before .before .before .before .before .before .args in
+    let o = c .before .before .before .before .open-frame in
+    let most : length (args .frame .now) ≤ 255 =
+    accepted-most (args .frame .now) (args .nwk-skey) (args .app-skey) (args .counter) (args .amendments .now) (o .result) (o .ensures)
+    (c .before .before .if1 .left) in
+    let long = held-long c in
+    omega arith
+
+array-share-prefix-held : tie.Need-array-share-prefix-held
+array-share-prefix-held c = fits (c .before .before .before .before .before)
+
+slice-aggregate-put : tie.Need-slice-aggregate-put
+slice-aggregate-put c = sym (length-take-le _ _ (fits (c .before .before .before .before .before .before)))
+
+put-requires : tie.Need-put-requires
+put-requires c κs =
+    let f = c .before .before .before .before .before .before .before .before .before .before .before .before .before .before .args .frame .now in
+    let held = c .before .before .before .before .before .before .amend-all .result .state .frame in
+    let long : length (take (length f) held) ≡ length f = length-take-le (length f) held (fits (c .before .before .before .before .before .before)) in
+    let room : 0 + length (take (length f) held) ≤ length f = omega arith in
+    room
+
+returns-2 : tie.Need-returns-2
+returns-2 c =
+    let args = c .before .before .before .before .before .before .before .before .before .before .before .before .before .before .before .before .before .args in
+    let f = args .frame .now in
+    let o = c .before .before .before .before .before .before .before .before .before .before .before .before .before .open-frame in
+    let a = c .before .before .before .before .before .before .before .before .before .amend-all in
+    let held = a .result .state .frame in
+    let law = whole-list f (args .nwk-skey) (args .app-skey) (args .counter) (args .amendments .now) (o .result) (o .ensures)
+    (c .before .before .before .before .before .before .before .before .before .before .before .if1 .left) (a .result) (a .ensures) (c .before .before .before .before .before .before .before .if2 .taken) in (
+      law .0,
+      c .before .before .put .ensures
+          ∙ whole-stored f (take (length f) held) (length-take-le (length f) held (fits (c .before .before .before .before .before .before .before .before .before)))
+          ∙ law .1,
+    )
+
+returns-3 : tie.Need-returns-3
+returns-3 c =
+    let args = c .before .before .before .before .before .before .before .before .before .before .args in
+    let o = c .before .before .before .before .before .before .open-frame in
+    let a = c .before .before .amend-all in
+    refused-list (args .frame .now) (args .nwk-skey) (args .app-skey) (args .counter) (args .amendments .now) (o .result) (o .ensures)
+    (c .before .before .before .before .if1 .left)
+    (a .result)
+    (a .ensures)
+    (c .if2 .left)
+
+pub amend-frame-spec : {M : Type 1} → statement M
+amend-frame-spec =
+    tie.close
+    (tie.spec
+    (λ c κs. search needs)
+    (λ c. search needs)
+    returns
+    (λ c κs. search needs)
+    array-share-prefix-held
+    slice-aggregate-put
+    put-requires
+    (λ c. search needs)
+    returns-2
+    (λ c. search needs)
+    returns-3)

@@ -1,0 +1,58 @@
+-- `carry_on` stores one chain value more a turn; what is still to be carried on gives the same. Assumes nothing.
+use Prim.Native.Nat.{_-_, _≤_, _+_, _*_}
+use mathlib.Core.Path.{_≡_, refl, sym, ap, _∙_}
+use native.Mathlib.Omega.{arith}
+use borrow.Author.Needs.{needs}
+use lib.ListN.{length}
+use Rattle.amend.specs.Amending.{chained}
+use Rattle.amend.proofs.Chains.{carry-step, carry-done}
+use Rattle.amend.proofs.carry_on.Statement.{statement}
+use Rattle.amend.proofs.carry_on.Tie as tie
+
+abbrev Inv-loop : tie.InvT-loop
+Inv-loop schedule frame chains₀ from to i₀ chains i =
+    (i ≤ to) × (length chains ≡ length chains₀)
+    × (chained schedule frame (to - i) i chains ≡ chained schedule frame (to - i₀) i₀ chains₀)
+
+abbrev μ-loop : tie.MeasureT-loop
+μ-loop schedule frame chains₀ from to i₀ chains i = to - i
+
+loop-again : tie.Need-loop-again Inv-loop μ-loop
+loop-again c =
+    let head = c .before .before .before .before .before .before .before .before .before .before in
+    let args = head .before .before .before .args in
+    let l = head .loop in (
+      search needs,
+      c .before .before .put .kept .0 ∙ l .inv .1,
+      cc (carry-step (args .schedule .now) (args .frame .now) (args .to) (l .i) (l .chains) (search needs)),
+    )
+
+returns : tie.Need-returns Inv-loop μ-loop
+returns c =
+    let head = c .before in
+    let args = head .before .before .before .args in
+    let l = head .loop in
+    sym (carry-done (args .schedule .now) (args .frame .now) (args .to) (l .i) (l .chains) (c .loop-test .left))
+    ∙ l .inv .2
+
+pub carry-on-spec : {M : Type 1} → statement M
+carry-on-spec =
+    tie.close
+    (tie.spec
+    Inv-loop
+    μ-loop
+    (λ c. (search needs, refl, refl))
+    (λ c. search needs)
+    (λ c κs. search needs)
+    (λ c. search needs)
+    (λ c κs. search needs)
+    (λ c κs. search needs)
+    (λ c. search needs)
+    (λ c. search needs)
+    (λ c. search needs)
+    (λ c κs. search needs)
+    (λ c. search needs)
+    (λ c. search needs)
+    loop-again
+    (λ c. search needs)
+    returns)

@@ -1,0 +1,3 @@
+pub mod Amending
+pub mod Listed
+pub mod Opening

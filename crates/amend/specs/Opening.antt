@@ -1,0 +1,67 @@
+-- What opening a frame for amendments gives (document 01, "Amendments"): refusals of reading, 4 for a frame of another
+-- type, 14 and 5, in that order, with a state that is all zeros; or the frame, both keys, the counter and the chain
+-- values of its MIC.
+-- Assumes nothing.
+use mathlib.Core.Bool.{Bool, true, false}
+use mathlib.Core.List.{List, [], _∷_, _++_}
+use Prim.Native.Nat.{ℕ, _+_, _-_, _/_, _%_}
+use lib.Dec.{leb, eqb}
+use lib.ListN.{length, take, replicate}
+use Rattle.base.specs.Bytes.{pick, tab, at}
+use Rattle.aes.specs.Fips197.{keyExpansion}
+use Rattle.cmac.specs.Rfc4493.{chain}
+use Rattle.cmac.specs.Compared.{sameBytes}
+use Rattle.frame.specs.Layout.{fcnt, micOf}
+use Rattle.frame.specs.Numbers.{onData}
+use Rattle.frame.specs.Reading.{readOf}
+use Rattle.secure.specs.Security.{helperBlock, dataMic}
+use Rattle.amend.specs.declared.Open.{Open}
+use Rattle.amend.specs.declared.Opened.{Opened}
+use Rattle.amend.specs.Amending.{state, lastBlock}
+
+-- a frame as a state holds it: zeros behind it up to 255 bytes
+unfoldable pub held : List ℕ → List ℕ
+held f = f ++ replicate (255 - length f) 0
+
+-- what the MIC of a frame covers: every byte ahead of it
+abbrev pub covered : List ℕ → List ℕ
+covered f = take (length f - 4) f
+
+-- 4.4 the message of the MIC: B_0, whose last byte is the length of what is covered, and that
+unfoldable pub message : List ℕ → ℕ → List ℕ
+message msg counter = helperBlock 0x49 msg counter (length msg % 256) ++ msg
+
+-- the chain values of the message m ahead of the frame's blocks 0 to last, sixteen bytes each, then zeros
+unfoldable pub chainsOf : List ℕ → List ℕ → ℕ → List ℕ
+chainsOf ks m last = tab 256 (λ j. pick (leb (j / 16) last) (at (chain ks m (j / 16 + 1)) (j % 16)) 0)
+
+-- the state of an open frame
+unfoldable pub openedOf : List ℕ → List ℕ → List ℕ → ℕ → Open
+openedOf f nwk app counter =
+    state (held f) (length f) (keyExpansion nwk) (keyExpansion app) counter
+    (chainsOf (keyExpansion nwk) (message (covered f) counter) (lastBlock (length f - 4)))
+
+-- the state of a refused opening
+unfoldable pub nothing : Open
+nothing = state (replicate 255 0) 0 (replicate 176 0) (replicate 176 0) 0 (replicate 256 0)
+
+abbrev pub refusedOpening : ℕ → ℕ → Opened
+refusedOpening n p = record { number = n; place = p; state = nothing }
+
+abbrev pub acceptedOpening : Open → Opened
+acceptedOpening s = record { number = 0; place = 0; state = s }
+
+-- 5 where the MIC differs
+unfoldable pub openChecked : List ℕ → List ℕ → List ℕ → ℕ → Opened
+openChecked f nwk app counter =
+    pick (sameBytes (dataMic nwk (covered f) counter) (micOf f)) (acceptedOpening (openedOf f nwk app counter))
+    (refusedOpening 5 0)
+
+-- of a data frame: 14 where the counter's low half is not the frame's
+unfoldable pub openData : List ℕ → List ℕ → List ℕ → ℕ → Opened
+openData f nwk app counter =
+    pick (eqb (counter % 65536) (fcnt f)) (openChecked f nwk app counter) (refusedOpening 14 0)
+
+-- a refused reading keeps its number, a frame of another type answers 4, a data frame goes on
+unfoldable pub openOf : List ℕ → List ℕ → List ℕ → ℕ → Opened
+openOf f nwk app counter = onData (λ d. openData f nwk app counter) refusedOpening (readOf f)
