@@ -1,14 +1,13 @@
 -- One byte of an open frame changed: the chain values that are carried on from its block, and the MIC that is made of
 -- them, are those of the changed frame's own message.
 -- Assumes nothing.
-use mathlib.Core.Path.{_≡_, refl, sym, ap, ap₂, _∙_}
-use mathlib.Core.List.{List, [], _∷_, _++_}
-use Prim.Native.Nat.{ℕ, zero, suc, _+_, _-_, _*_, _/_, _%_, _≤_, _<_}
+use mathlib.Core.Path.{_≡_, sym, ap, ap₂, _∙_}
+use mathlib.Core.List.{List, _++_}
+use Prim.Native.Nat.{ℕ, _+_, _-_, _*_, _/_, _%_, _≤_, _<_}
 use native.Mathlib.Omega.{arith}
 use lib.ListN.{length, take, drop, set, length-set}
-use lib.Seq.{sets, sets-eq, take-take, take-append-add, take-set-le, take-set-lt, drop-set-lt, length-take-le}
+use lib.Seq.{sets, sets-eq, take-take, take-append-add, take-set-le, drop-set-lt, length-take-le}
 use Rattle.aes.specs.Fips197.{keyExpansion}
-use Rattle.cmac.specs.Rfc4493.{chain}
 use Rattle.cmac.proofs.Laws.{chain-same}
 use Rattle.secure.specs.Security.{helperBlock, dataMic}
 use Rattle.secure.proofs.SecurityLaws.{helperBlock-long, helperBlock-same, dataMic-long}

@@ -3,8 +3,8 @@
 -- the MIC that is made of the last of them is that of the whole message.
 -- Assumes nothing.
 use mathlib.Core.Path.{_≡_, refl, sym, ap, ap₂, _∙_, subst}
-use mathlib.Core.Bool.{Bool, true, false}
-use mathlib.Core.List.{List, [], _∷_, _++_}
+use mathlib.Core.Bool.{Bool}
+use mathlib.Core.List.{List, _++_}
 use Prim.Native.Nat.{ℕ, zero, suc, _+_, _-_, _*_, _/_, _%_, _≤_, _<_}
 use native.Mathlib.Numerals.{add-one}
 use native.Mathlib.Omega.{arith}
@@ -12,7 +12,7 @@ use lib.Dec.{leb}
 use lib.ListN.{length, take, drop, length-append, getD-replicate}
 use lib.Seq.{sets, length-sets, drop-append-add, length-take-le}
 use borrow.Author.Tests.{le-leb, lt-leb}
-use Rattle.base.specs.Bytes.{pick, tab, at, part, xorL}
+use Rattle.base.specs.Bytes.{pick, at, part, xorL}
 use Rattle.base.proofs.Tab.{length-tab, at-tab, same-at}
 use Rattle.base.proofs.Cases.{by-order}
 use Rattle.base.proofs.Lent.{part-long}

@@ -4,30 +4,26 @@
 -- Assumes nothing.
 use mathlib.Core.Path.{_≡_, refl, sym, ap, ap₂, _∙_, subst}
 use mathlib.Core.Bool.{Bool, true, false}
-use mathlib.Core.List.{List, [], _∷_, _++_}
-use Prim.Native.Nat.{ℕ, _+_, _-_, _≤_, _<_}
+use mathlib.Core.List.{List, [], _∷_}
+use Prim.Native.Nat.{ℕ, _-_, _≤_, _<_}
 use native.Mathlib.Omega.{arith}
 use lib.Dec.{ltb}
-use lib.ListN.{length, take, drop, set, length-set}
+use lib.ListN.{length, take, set, length-set}
 use lib.Seq.{take-all, set-set, set-getD}
 use borrow.Author.Tests.{lt-ltb, le-ltb}
-use Rattle.base.specs.Bytes.{pick, at, part, _⊕_}
+use Rattle.base.specs.Bytes.{pick, at}
 use Rattle.base.proofs.Cases.{by-order}
-use Rattle.frame.specs.Conditions.{IsData}
-use Rattle.frame.specs.Layout.{payloadEnd, headerEnd, header, payload}
-use Rattle.secure.specs.Sealing.{payloadKey, sealed}
-use Rattle.secure.specs.Security.{streamAt, crypted}
-use Rattle.frame.proofs.LayoutLaws.{placed, length-payload}
-use Rattle.secure.proofs.SecurityLaws.{crypted-at, crypted-long}
+use Rattle.frame.specs.Layout.{header, payload}
+use Rattle.secure.specs.Sealing.{sealed}
 use Rattle.amend.specs.declared.Open.{Open}
 use Rattle.amend.specs.declared.Opened.{Opened}
 use Rattle.amend.specs.declared.Amended.{Amended}
 use Rattle.amend.specs.Amending.{payloadLength, amendOf}
-use Rattle.amend.specs.Opening.{held, openedOf, acceptedOpening, openOf}
+use Rattle.amend.specs.Opening.{openedOf, acceptedOpening, openOf}
 use Rattle.amend.specs.Listed.{Amendment, amendedBy, payloadBy, clearOf}
 use Rattle.amend.proofs.Accepted.{Accepted, accepted-opens, opens-accepted}
-use Rattle.amend.proofs.OneByte.{held-at, held-take, payload-count, again, amended-opened}
-use Rattle.amend.proofs.Sealed.{clear-long, accepted-sealed, sealed-long, sealed-at, sealed-header, sealed-payload, sealed-clear, sealed-end, sealed-accepted}
+use Rattle.amend.proofs.OneByte.{held-take, payload-count, again, amended-opened}
+use Rattle.amend.proofs.Sealed.{clear-long, accepted-sealed, sealed-long, sealed-header, sealed-clear, sealed-accepted}
 use Rattle.amend.proofs.Within.{amend-inside, amend-outside}
 
 -- ---- the payload after a list
@@ -172,7 +168,23 @@ module _ (f nwk app : List ℕ) (counter : ℕ) where
       → Stands f nwk app counter list (amendedBy (openOf f nwk app counter .state) list)
   demand-3 e list = subst (λ (s : Open). Stands f nwk app counter list s) (sym (state-after e list)) (after-stands e list)
 
-  -- ---- what stays
+  -- ---- which amendments are accepted, and two that change nothing more
+
+  count-is : openOf f nwk app counter .number ≡ 0 → payloadLength (openOf f nwk app counter .state) ≡ length (payload f)
+  count-is e =
+      ap payloadLength (opened-is e)
+      ∙ payload-count f nwk app counter (opens-accepted f nwk app counter e .data-frame)
+
+  -- 15 at or past the payload's length; so with no payload each amendment gets it
+  pub outside-refused : openOf f nwk app counter .number ≡ 0 → (k v : ℕ) → length (payload f) ≤ k
+      → amendOf (openOf f nwk app counter .state) k v
+      ≡ record { number = 15; place = 0; state = openOf f nwk app counter .state }
+  outside-refused e k v h = amend-outside (openOf f nwk app counter .state) k v (omega (arith, count-is e))
+
+  pub inside-accepted : openOf f nwk app counter .number ≡ 0 → (k v : ℕ) → k < length (payload f)
+      → amendOf (openOf f nwk app counter .state) k v .number ≡ 0
+  inside-accepted e k v h =
+      ap (λ (r : Amended). r .number) (amend-inside (openOf f nwk app counter .state) k v (omega (arith, count-is e)))
 
   -- naming a byte again: the later value decides
   pub later-decides : openOf f nwk app counter .number ≡ 0 → (k v w : ℕ)

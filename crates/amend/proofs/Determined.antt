@@ -1,7 +1,7 @@
 -- The promise of each public call fixes its answer, at every state, and what it was lent: two outcomes that satisfy it at
 -- the same arguments are equal. It is said of the contract itself, and holds since each promise is an equation.
 -- Assumes nothing.
-use mathlib.Core.Path.{_≡_, sym, _∙_}
+use mathlib.Core.Path.{sym, _∙_}
 use denote.Ref.{now}
 use Rattle.base.proofs.Fixed.{Determined, DeterminedLent}
 use Rattle.amend.proofs.Open.amend.Reads as amend

@@ -1,10 +1,9 @@
 -- No byte of a frame differs after a list of amendments but those that accepted ones name and the MIC: the header stays,
 -- and a payload byte that is not named has the same clear value, and so the same encrypted one.
 -- Assumes nothing.
-use mathlib.Core.Path.{_≡_, refl, sym, ap, ap₂, _∙_, subst}
-use mathlib.Core.Bool.{Bool, true, false}
+use mathlib.Core.Path.{_≡_, refl, sym, ap, _∙_, subst}
 use mathlib.Core.List.{List, [], _∷_}
-use Prim.Native.Nat.{ℕ, _+_, _-_, _≤_, _<_}
+use Prim.Native.Nat.{ℕ, _+_, _-_, _<_}
 use native.Mathlib.Omega.{arith}
 use lib.Dec.{ltb}
 use lib.ListN.{length, set}
@@ -12,10 +11,9 @@ use lib.Seq.{getD-set-other}
 use Rattle.base.specs.Bytes.{pick, at, _⊕_}
 use Rattle.base.proofs.Cases.{by-order}
 use Rattle.base.proofs.Parts.{at-part}
-use Rattle.frame.specs.Conditions.{IsData}
 use Rattle.frame.specs.Layout.{payloadEnd, headerEnd, header, payload}
-use Rattle.secure.specs.Sealing.{payloadKey, sealed}
-use Rattle.secure.specs.Security.{streamAt, crypted}
+use Rattle.secure.specs.Sealing.{payloadKey}
+use Rattle.secure.specs.Security.{streamAt}
 use Rattle.frame.proofs.LayoutLaws.{placed, length-payload}
 use Rattle.secure.proofs.SecurityLaws.{crypted-at, crypted-long, crypted-twice}
 use Rattle.amend.specs.declared.Open.{Open}

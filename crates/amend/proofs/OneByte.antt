@@ -3,23 +3,22 @@
 -- Assumes nothing.
 use mathlib.Core.Path.{_≡_, refl, sym, ap, ap₂, _∙_}
 use mathlib.Core.Bool.{Bool, true, false}
-use mathlib.Core.List.{List, [], _∷_, _++_, append-assoc}
-use Prim.Native.Nat.{ℕ, zero, suc, _+_, _-_, _*_, _%_, _≤_, _<_}
+use mathlib.Core.List.{List, [], _∷_, _++_}
+use Prim.Native.Nat.{ℕ, _+_, _-_, _%_, _≤_, _<_}
 use native.Mathlib.Nat.{suc-add, zero-add}
 use native.Mathlib.Omega.{arith}
 use lib.Dec.{eqb}
 use lib.ListN.{length, take, drop, set, replicate, length-append, length-replicate, length-set, take-append-drop, List·getD-append}
-use lib.Seq.{take-at, drop-at, take-take, take-append-le, take-set-lt, getD-take}
-use Rattle.base.specs.Bytes.{pick, at, part, _⊕_}
+use lib.Seq.{drop-at, take-take, take-append-le, take-set-lt, getD-take}
+use Rattle.base.specs.Bytes.{pick, at, _⊕_}
 use Rattle.aes.specs.Fips197.{keyExpansion, cipher}
 use Rattle.frame.specs.Conditions.{IsData}
-use Rattle.frame.specs.Layout.{fport, fhdrLength, payloadStart, payloadEnd, headerEnd, header, payload, micOf}
+use Rattle.frame.specs.Layout.{fport, fhdrLength, payloadStart, headerEnd, header, payload}
 use Rattle.secure.specs.Sealing.{payloadKey, sealed}
-use Rattle.secure.specs.Security.{helperBlock, blockNumber, streamAt, crypted, dataMic}
+use Rattle.secure.specs.Security.{blockNumber, streamAt, dataMic}
 use Rattle.frame.proofs.LayoutLaws.{placed, length-header, length-payload}
 use Rattle.secure.proofs.SecurityLaws.{helperBlock-same, crypted-twice, crypted-set}
-use Rattle.amend.specs.declared.Open.{Open}
-use Rattle.amend.specs.Amending.{state, schedule, mask, encryptedByte, payloadLength, lastBlock, carried, resigned, amendedTo}
+use Rattle.amend.specs.Amending.{state, mask, encryptedByte, payloadLength, lastBlock, carried, resigned, amendedTo}
 use Rattle.amend.specs.Opening.{held, covered, message, chainsOf, openedOf}
 use Rattle.amend.specs.Listed.{clearOf}
 use Rattle.amend.proofs.Accepted.{Accepted}

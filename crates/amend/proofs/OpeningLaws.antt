@@ -1,9 +1,9 @@
 -- What opening computes is what its definition says: the first chain value comes of B_0, carrying on gives the rest, the
 -- MIC from the last of them is that of the frame, and the bytes that are stored are the frame with zeros behind.
 -- Assumes nothing.
-use mathlib.Core.Path.{_≡_, refl, sym, ap, ap₂, _∙_, subst}
-use mathlib.Core.List.{List, [], _∷_, _++_, append-nil}
-use Prim.Native.Nat.{ℕ, zero, suc, _+_, _-_, _*_, _/_, _%_, _≤_, _<_}
+use mathlib.Core.Path.{_≡_, sym, ap, ap₂, _∙_, subst}
+use mathlib.Core.List.{List, [], _∷_, _++_}
+use Prim.Native.Nat.{ℕ, _+_, _-_, _*_, _%_, _≤_, _<_}
 use native.Mathlib.Omega.{arith}
 use lib.ListN.{length, take, drop, replicate, length-replicate, getD-replicate, length-drop}
 use lib.Seq.{sets, sets-eq, length-sets, getD-drop, take-at, take-take, length-take-le}
@@ -16,7 +16,7 @@ use Rattle.base.proofs.Lent.{part-long}
 use Rattle.base.proofs.Parts.{at-part}
 use Rattle.aes.specs.Fips197.{keyExpansion, cipher}
 use Rattle.aes.proofs.Laws.{cipher-long}
-use Rattle.cmac.specs.Rfc4493.{zeros, chain, tag, mac, mic}
+use Rattle.cmac.specs.Rfc4493.{zeros, chain, mac, mic}
 use Rattle.cmac.proofs.Laws.{chain-zero, chain-suc}
 use Rattle.frame.specs.Conditions.{IsData}
 use Rattle.frame.specs.Layout.{fcnt, micOf}

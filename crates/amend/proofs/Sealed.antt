@@ -2,17 +2,17 @@
 -- behind its header makes a frame that opening accepts again, with that header and that payload.
 -- Assumes nothing.
 use mathlib.Core.Path.{_≡_, refl, sym, ap, ap₂, _∙_}
-use mathlib.Core.List.{List, [], _∷_, _++_, append-assoc}
-use Prim.Native.Nat.{ℕ, _+_, _-_, _*_, _%_, _≤_, _<_, min}
+use mathlib.Core.List.{List, _++_, append-assoc}
+use Prim.Native.Nat.{ℕ, _+_, _-_, _*_, _%_, _<_, min}
 use native.Mathlib.Omega.{arith}
 use lib.ListN.{length, take, drop, length-append, List·getD-append}
 use lib.Seq.{take-at, drop-at, take-add, getD-take}
 use Rattle.base.specs.Bytes.{at, part}
 use Rattle.frame.specs.Conditions.{IsData}
-use Rattle.frame.specs.Layout.{fcnt, fhdrLength, payloadStart, payloadEnd, headerEnd, header, payload, micOf}
+use Rattle.frame.specs.Layout.{fcnt, payloadEnd, headerEnd, header, payload, micOf}
 use Rattle.secure.specs.Sealing.{payloadKey, enciphered, sealed}
 use Rattle.secure.specs.Security.{crypted, dataMic}
-use Rattle.frame.proofs.LayoutLaws.{Placed, placed, parts, length-header, length-payload}
+use Rattle.frame.proofs.LayoutLaws.{placed, parts, length-header, length-payload}
 use Rattle.secure.proofs.SecurityLaws.{crypted-long, crypted-twice, dataMic-long}
 use Rattle.amend.specs.Opening.{covered}
 use Rattle.amend.specs.Listed.{clearOf}

@@ -2,11 +2,10 @@
 -- what an amendment gives, inside and outside.
 -- Assumes nothing.
 use mathlib.Core.Path.{_≡_, subst, ap, ap₂, _∙_}
-use mathlib.Core.Bool.{Bool, true, false}
+use mathlib.Core.Bool.{Bool}
 use mathlib.Core.List.{List}
 use Prim.Native.Nat.{ℕ, _+_, _-_, _≤_, _<_}
 use native.Mathlib.Omega.{arith}
-use lib.Dec.{leb, ltb}
 use lib.ListN.{set}
 use borrow.Author.Tests.{le-leb, lt-leb, lt-ltb, le-ltb}
 use Rattle.base.specs.Bytes.{pick}
@@ -62,3 +61,10 @@ pub amend-inside : (s : Open) (k v : ℕ) → k < payloadLength s
     → amendOf s k v ≡ record { number = 0; place = 0; state = amendedTo s k v }
 unfolding amendOf
 amend-inside s k v h = simp (lt-ltb k (payloadLength s) h)
+
+-- so whatever is refused is refused by 15 and gives the state that it was given
+pub refused-keeps : (s : Open) (k v : ℕ) → (amendOf s k v .number ≡ 0 → ⊥)
+    → amendOf s k v ≡ record { number = 15; place = 0; state = s }
+refused-keeps s k v n =
+    by-order (payloadLength s) k (amend-outside s k v)
+    (λ l. absurd (n (ap (λ (r : Amended). r .number) (amend-inside s k v l))))

@@ -2,11 +2,10 @@
 -- "Amendments"). The message of the MIC is B_0, one block, and then the frame up to its MIC, so that the frame's block
 -- i is the message's block i + 1; place i of the chain values is what stands ahead of the frame's block i.
 -- Assumes nothing.
-use mathlib.Core.Bool.{Bool, true, false}
-use mathlib.Core.List.{List, [], _∷_, _++_}
+use mathlib.Core.List.{List}
 use Prim.Native.Nat.{ℕ, zero, suc, _+_, _-_, _*_, _/_, _%_}
 use lib.Dec.{leb, ltb, eqb}
-use lib.ListN.{length, take, drop, set, replicate}
+use lib.ListN.{length, take, set}
 use lib.Seq.{sets}
 use Rattle.base.specs.Bytes.{pick, at, part, _⊕_, xorL}
 use Rattle.aes.specs.Fips197.{cipher}

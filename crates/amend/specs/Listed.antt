@@ -1,7 +1,6 @@
 -- Lists of amendments. `amendedBy` goes on past a refused amendment, which changes nothing; the call that takes a
 -- frame and a whole list stops at the first refusal, and then changes nothing at all (document 01, "Amendments").
 -- Assumes nothing.
-use mathlib.Core.Bool.{Bool, true, false}
 use mathlib.Core.List.{List, [], _∷_}
 use Prim.Native.Nat.{ℕ, _/_, _%_}
 use lib.Dec.{ltb, eqb}
@@ -11,7 +10,6 @@ use Rattle.frame.specs.Layout.{header, payload}
 use Rattle.secure.specs.Sealing.{payloadKey}
 use Rattle.secure.specs.Security.{crypted}
 use Rattle.amend.specs.declared.Open.{Open}
-use Rattle.amend.specs.declared.Opened.{Opened}
 use Rattle.amend.specs.declared.Amended.{Amended}
 use Rattle.amend.specs.declared.Outcome.{Outcome}
 use Rattle.amend.specs.Amending.{amendOf}

@@ -2,8 +2,7 @@
 -- type, 14 and 5, in that order, with a state that is all zeros; or the frame, both keys, the counter and the chain
 -- values of its MIC.
 -- Assumes nothing.
-use mathlib.Core.Bool.{Bool, true, false}
-use mathlib.Core.List.{List, [], _∷_, _++_}
+use mathlib.Core.List.{List, _++_}
 use Prim.Native.Nat.{ℕ, _+_, _-_, _/_, _%_}
 use lib.Dec.{leb, eqb}
 use lib.ListN.{length, take, replicate}

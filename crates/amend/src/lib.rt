@@ -6,7 +6,6 @@ ghost use lib.Dec.{leb, eqb};
 ghost use lib.ListN.{length};
 ghost use lib.Seq.{sets};
 ghost use Rattle.base.specs.Bytes.{part, pick};
-ghost use Rattle.frame.specs.Conditions.{IsData};
 ghost use Rattle.frame.specs.Layout.{fport, payloadStart, micOf};
 ghost use Rattle.amend.specs.Amending.{mask, lastBlock, chained, signedFrom, carried, resigned, amendedTo, amendOf};
 ghost use Rattle.amend.specs.Opening.{covered, message, chainsOf, openedOf, nothing, refusedOpening, openChecked, openOf};

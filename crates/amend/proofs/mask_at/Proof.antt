@@ -1,6 +1,4 @@
 -- `mask_at` enciphers the block A_i that holds the byte's index. Assumes nothing.
-use Prim.Native.Nat.{_%_, _/_, _+_}
-use mathlib.Core.Path.{_≡_}
 use borrow.Author.Needs.{needs}
 use Rattle.secure.specs.Security.{blockNumber}
 use Rattle.secure.proofs.SecurityLaws.{helperBlock-start}

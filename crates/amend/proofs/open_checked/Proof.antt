@@ -1,6 +1,6 @@
 -- `open_checked` compares the MIC of the chain values with the frame's. Assumes nothing.
 use Prim.Native.Nat.{_-_}
-use mathlib.Core.Bool.{Bool, true, false}
+use mathlib.Core.Bool.{true, false}
 use mathlib.Core.Path.{_≡_}
 use native.Mathlib.Omega.{arith}
 use borrow.Author.Needs.{needs}

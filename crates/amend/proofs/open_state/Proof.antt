@@ -1,5 +1,5 @@
 -- `open_state` copies the frame and keeps keys, counter and chain values. Assumes nothing.
-use mathlib.Core.Path.{_≡_, _∙_}
+use mathlib.Core.Path.{_∙_}
 use borrow.Author.Needs.{needs}
 use Rattle.amend.proofs.OpeningLaws.{stored-frame, opened-is}
 use Rattle.amend.proofs.open_state.Statement.{statement}

@@ -1,5 +1,4 @@
 -- `resign` carries the chain values on, signs from the last of them and stores the MIC. Assumes nothing.
-use mathlib.Core.Path.{_≡_}
 use native.Mathlib.Omega.{arith}
 use borrow.Author.Needs.{needs}
 use Rattle.amend.proofs.resign.Statement.{statement}

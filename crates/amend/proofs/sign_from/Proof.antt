@@ -1,5 +1,4 @@
 -- `sign_from` resumes the MAC at the last block. Assumes nothing.
-use mathlib.Core.Path.{_≡_}
 use borrow.Author.Needs.{needs}
 use Rattle.amend.specs.Amending.{signedFrom}
 use Rattle.amend.proofs.sign_from.Statement.{statement}

@@ -3,7 +3,6 @@ use Prim.Native.Nat.{ℕ, _<_, _≤_}
 use mathlib.Core.Path.{_≡_, subst}
 use borrow.Author.Needs.{needs}
 use borrow.Author.Tests.{lt-ltb, le-ltb}
-use Rattle.frame.specs.Layout.{payloadStart}
 use Rattle.amend.specs.Amending.{payloadLength, amendOf}
 use Rattle.amend.proofs.Within.{inside}
 use Rattle.amend.proofs.Open.amend.Statement.{statement}
