@@ -6,4 +6,5 @@ pub mod Header
 pub mod JoinBodies
 pub mod ReadBackData
 pub mod ReadBackJoin
+pub mod ReadBackOpened
 pub mod Table

@@ -1,0 +1,124 @@
+-- What was built passes its MIC test and opens: a data frame to the clear payload or commands, and it says which of the two
+-- it holds; a join-accept to the clear bytes and their MIC, checked. What `ReadBackData` and `ReadBackJoin` show of the
+-- parts, said of what the calls answer.
+-- Assumes nothing.
+use mathlib.Core.Path.{_≡_, sym, ap, ap₂, _∙_}
+use mathlib.Core.Bool.{Bool, true, false}
+use mathlib.Core.List.{List, _++_}
+use Prim.Native.Nat.{ℕ, _+_, _<_, _≤_}
+use native.Mathlib.Omega.{arith}
+use lib.Dec.{eqb}
+use lib.ListN.{length}
+use borrow.Author.Tests.{eqb-true, eqb-false}
+use Rattle.base.specs.Bytes.{pick}
+use Rattle.base.proofs.Cases.{by-bool, by-order}
+use Rattle.frame.specs.Layout.{fcnt, fport, fhdrLength, header, payload, payloadStart, payloadEnd, micOf}
+use Rattle.frame.specs.Conditions.{IsData}
+use Rattle.frame.specs.Reading.{portOf, payloadOf}
+use Rattle.frame.specs.declared.parser.FPort.{FPort}
+use Rattle.frame.specs.declared.parser.FPort.the-variants.{Absent, Port}
+use Rattle.frame.specs.declared.parser.FrmPayload.{FrmPayload}
+use Rattle.frame.specs.declared.parser.FrmPayload.the-variants.{Data as PlainData, MacCommands}
+use Rattle.frame.specs.Numbers.{onAccept}
+use Rattle.frame.proofs.ReadingLaws.{data-read, request-read}
+use Rattle.frame.proofs.ReadingSteps.{port-there, port-absent, payload-commands, payload-data}
+use Rattle.secure.specs.Opening.{Result, result, unopened, message, joinPasses, joinRequestTest, dataTest, acceptTested, acceptOpenedChecked, dataOpened, givenKey}
+use Rattle.secure.specs.JoinAccept.{acceptDecrypted}
+use Rattle.secure.specs.Sealing.{payloadKey}
+use Rattle.secure.specs.Security.{crypted, fullCounter, joinMic}
+use Rattle.secure.specs.declared.payload.MicTest.the-variants.{Passes}
+use Rattle.secure.specs.declared.payload.Opening.the-variants.{Opened}
+use Rattle.secure.proofs.DecryptionLaws.{request-mic-exactly, data-mic-exactly}
+use Rattle.secure.proofs.OpenedLaws.{opened-both}
+use Rattle.cmac.proofs.Compared.{test-of-same}
+use Rattle.build.specs.Building.{bodyOf, dataHeader, dataRefusal, joinAcceptBody}
+use Rattle.build.specs.Frames.{dataFrame, signed}
+use Rattle.build.specs.declared.creator.JoinAcceptParts.{JoinAcceptParts}
+use Rattle.build.specs.declared.creator.JoinRequestParts.{JoinRequestParts}
+use Rattle.build.specs.declared.creator.DataParts.{DataParts}
+use Rattle.build.proofs.ReadBackData.{DataBack, data-back}
+use Rattle.build.proofs.ReadBackJoin.{RequestBack, AcceptBack}
+
+-- what a port says of the payload behind it
+abbrev pub heldBy : ℕ → ℕ → ℕ → FrmPayload
+heldBy port start end = pick (eqb port 0) (MacCommands start end) (PlainData start end)
+
+-- a port that is reported stands in its place, with a byte behind it
+port-byte : (f : List ℕ) (q : ℕ) → portOf f ≡ Port q → (fhdrLength f + 6 < length f) × (fport f ≡ q)
+port-byte f q e =
+    by-order (length f) (fhdrLength f + 6)
+    (λ l.
+    let none : portOf f ≡ Absent = port-absent f l in
+    let z : _≡_ {A = ℕ} 0 1 = cc in
+    absurd (omega arith))
+    (λ l.
+    let one : portOf f ≡ Port (fport f) = port-there f l in
+    (l, cc))
+
+held-by : (f : List ℕ) (q : ℕ) → portOf f ≡ Port q → payloadOf f ≡ heldBy q (payloadStart f) (payloadEnd f)
+held-by f q e =
+    let p = port-byte f q e in
+    by-bool (eqb q 0)
+    (λ t.
+    payload-commands f (p .0) (p .1 ∙ eqb-true q 0 t)
+    ∙ ap (λ (b : Bool). pick b (MacCommands (payloadStart f) (payloadEnd f)) (PlainData (payloadStart f) (payloadEnd f)))
+    (sym t))
+    (λ t.
+    payload-data f (p .0) (λ z. eqb-false q 0 t (sym (p .1) ∙ z))
+    ∙ ap (λ (b : Bool). pick b (MacCommands (payloadStart f) (payloadEnd f)) (PlainData (payloadStart f) (payloadEnd f)))
+    (sym t))
+
+-- what the calls answer of a built frame f
+pub record DataOpens (nwk app : List ℕ) (d : DataParts) (commands body f : List ℕ) : Type 0 where
+  pub passes : dataTest nwk (d .fcnt) f ≡ Passes
+  pub opens : dataOpened (givenKey nwk) (givenKey app) (d .fcnt) f
+      ≡ result Opened (dataHeader d commands ++ (bodyOf (d .port) commands body ++ micOf f))
+  -- commands on port 0, data on another, where there is a byte
+  pub holds : (q : ℕ) → d .port ≡ Port q → 0 < length (bodyOf (d .port) commands body)
+      → payloadOf f ≡ heldBy q (payloadStart f) (payloadEnd f)
+
+module _ (nwk app : List ℕ) (d : DataParts) (commands body f : List ℕ) (b : DataBack nwk app d commands body f) where
+  is-data : IsData f
+  is-data = data-read f (b .reads)
+
+  whole-counter : fullCounter (d .fcnt) (fcnt f) ≡ d .fcnt
+  unfolding fullCounter
+  whole-counter = omega (arith, b .count)
+
+  opened-back : dataOpened (givenKey nwk) (givenKey app) (d .fcnt) f
+      ≡ result Opened (dataHeader d commands ++ (bodyOf (d .port) commands body ++ micOf f))
+  opened-back =
+      opened-both nwk app f (d .fcnt) is-data
+      ∙ ap (λ (c : ℕ). result Opened (header f ++ (crypted (payloadKey (header f) nwk app) (header f) c (payload f) ++ micOf f)))
+      whole-counter
+      ∙ ap₂ (λ (s t : List ℕ). result Opened (s ++ (t ++ micOf f))) (b .header-back) (b .payload-back)
+
+  opens-back : DataOpens nwk app d commands body f
+  opens-back =
+      record {
+        passes = data-mic-exactly nwk f (d .fcnt) is-data .back (b .mic-back);
+        opens = opened-back;
+        holds = λ q e some. held-by f q (b .port q e some);
+      }
+
+pub data-opens : (nwk app : List ℕ) (d : DataParts) → length (d .«dev_addr») ≡ 4 → (commands body : List ℕ) (room : ℕ)
+    → dataRefusal d commands body room ≡ 0 → DataOpens nwk app d commands body (dataFrame nwk app d commands body)
+data-opens nwk app d four commands body room e =
+    opens-back nwk app d commands body (dataFrame nwk app d commands body) (data-back nwk app d four commands body room e)
+
+-- ---- the join messages, of what `join-request-back` and `join-accept-back` give
+
+pub request-passes : (key : List ℕ) (j : JoinRequestParts) (f : List ℕ) → RequestBack key j f → joinRequestTest key f ≡ Passes
+request-passes key j f b = request-mic-exactly key f (request-read f (b .reads)) .back (b .mic)
+
+-- the checked opening of a built join-accept accepts it, and leaves the clear bytes and their MIC
+pub accept-opens : (key : List ℕ) (j : JoinAcceptParts) (channels f : List ℕ)
+    → AcceptBack key j channels f (acceptDecrypted key f)
+    → acceptOpenedChecked key f ≡ result Opened (signed key (joinAcceptBody j channels))
+unfolding acceptOpenedChecked acceptTested joinPasses
+accept-opens key j channels f b =
+    let g = acceptDecrypted key f in
+    ap (onAccept (λ n. acceptTested key f) (unopened f)) (b .reads)
+    ∙ ap (λ (t : Bool). pick t (result Opened g) (unopened f 5 0))
+    (test-of-same (micOf g) (joinMic key (message g)) (b .mic))
+    ∙ ap (result Opened) (b .clear)
