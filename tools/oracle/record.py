@@ -1,15 +1,15 @@
 #!/usr/bin/env python3
-"""Lays recorded cases and their right answers beside the program that replays them.
+"""Lays recorded cases and their right answers beside the programs that replay them.
 
-Run: python3 tools/oracle/record.py; it takes the lists of out/, one after the other, and writes crates/replay/stdin and
-crates/replay/stdout. The answers are the oracle's: no program is asked.
+Run: python3 tools/oracle/record.py; it takes a program's lists of out/, one after the other, and writes its files stdin
+and stdout. The answers are the oracle's: no program is asked.
 """
 
 import pathlib
 
 import records
 
-LISTS = {"replay": ("opened", "built", "read")}
+LISTS = {"replay": ("opened", "built", "read"), "amended": ("amended",)}
 HERE = pathlib.Path(__file__).resolve().parent
 CRATES = HERE.parent.parent / "crates"
 
