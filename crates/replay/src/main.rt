@@ -1,0 +1,58 @@
+// Replays the recorded cases of standard input, a call of the port to each, and writes a line with the answer to each in
+// hex, and at the end how many there were. The records and the right answers are those of tools/oracle, whose README.md
+// has the formats; tools/oracle/record.py lays them beside this program. It promises nothing but to be safe and to end:
+// what comes out is compared.
+use crate::input::ROOM;
+use libc::STDIN_FILENO;
+use libc::STDOUT_FILENO;
+
+mod building;
+mod input;
+mod opening;
+mod output;
+mod reading;
+
+// The call that a record tells of.
+fn answer(record: &[u8]) {
+    match input::byte_at(record, 0) {
+        9 => building::join_request(record),
+        10 => building::join_accept(record),
+        11 => building::data(record),
+        13 => reading::frame(record),
+        14 => reading::clear_accept(record),
+        _ => opening::answer(record),
+    }
+}
+
+// The record that fills its slice, or as much of it as there is; whether its line was written.
+fn replay_record(record: &mut [u8]) -> bool {
+    let n = io::read_full(STDIN_FILENO, record);
+    answer(&record[..n]);
+    io::write_all(STDOUT_FILENO, b"\n")
+}
+
+// One record; whether there was one.
+fn replay_next() -> bool {
+    let mut prefix = [0u8; 2];
+    if io::read_full(STDIN_FILENO, &mut prefix) < 2 {
+        return false;
+    }
+    let length = input::length_of(prefix[0], prefix[1]);
+    let mut record = [0u8; ROOM];
+    replay_record(&mut record[..length])
+}
+
+// All records; how many there were.
+fn replay_all() -> u64 {
+    // A loop has to end, and nothing says that an input does: so the cases are counted up to a number that no run reaches.
+    let mut cases: u64 = 0;
+    while cases < u64::MAX && replay_next() {
+        cases += 1;
+    }
+    cases
+}
+
+fn main() {
+    io::print_decimal(STDOUT_FILENO, replay_all());
+    io::write_all(STDOUT_FILENO, b" cases\n");
+}
