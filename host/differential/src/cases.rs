@@ -173,12 +173,7 @@ fn on_data(random: &mut Random) -> Case {
             counter,
             frame,
         },
-        2 => Case::DecryptDataChecked {
-            network,
-            application: given(random).then_some(application),
-            counter,
-            frame,
-        },
+        2 => Case::DecryptDataChecked { network, application: given(random).then_some(application), counter, frame },
         _ => {
             let amendments = amendments(random, &frame);
             Case::Amend(Amend { network, application, counter, frame, amendments })

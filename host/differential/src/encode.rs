@@ -69,9 +69,7 @@ pub fn encode(case: &Case) -> Vec<u8> {
         }
         Case::DecryptJoinAccept { app_key, frame } => [&[6], &app_key.0[..], &bytes(frame)].concat(),
         Case::DecryptJoinAcceptChecked { app_key, frame } => [&[7], &app_key.0[..], &bytes(frame)].concat(),
-        Case::SessionKeys { app_key, dev_nonce, frame } => {
-            [&[8], &app_key.0[..], dev_nonce, &bytes(frame)].concat()
-        }
+        Case::SessionKeys { app_key, dev_nonce, frame } => [&[8], &app_key.0[..], dev_nonce, &bytes(frame)].concat(),
         Case::BuildJoinRequest(call) => join_request(call),
         Case::BuildJoinAccept(call) => join_accept(call),
         Case::BuildData(call) => data(call),
