@@ -107,7 +107,7 @@ impl Tally {
     /// Runs both on a case.
     pub fn case(&mut self, case: &Case) {
         self.cases += 1;
-        if self.cases % 500_000 == 0 {
+        if self.cases.is_multiple_of(500_000) {
             eprintln!("{} cases, {} differences so far", self.cases, self.differences);
         }
         let ours = answer(case);

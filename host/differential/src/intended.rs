@@ -303,23 +303,26 @@ fn other_type() -> Shown {
     shown(read.into(), refused(answer, frame == [0; 23]), "a join-request, which has no decryption", "4, unchanged")
 }
 
-const ALL: [(&str, fn() -> Shown); 16] = [
+type Difference = (&'static str, fn() -> Shown);
+
+/// In the order of the document's rows.
+const ALL: [Difference; 16] = [
     ("a join-accept with a channel list", channel_list),
-    ("a channel list into 17 bytes", list_into_seventeen),
     ("a frame of 256 bytes, read", long_frame),
     ("a frame of 256 bytes, built into 256", long_building),
-    ("a frame of 256 bytes, built into 255", long_building_into_255),
     ("FCtrl with a length and no commands", fopts_len_set),
     ("FCtrl with a length and commands", fopts_len_set_with_commands),
-    ("a refused building", refused_building),
-    ("a checked join-accept, refused", refused_checked_join_accept),
     ("another major version, direct constructors", direct_constructors),
     ("a join-request into 24 bytes", join_request_into_more),
     ("a join-accept without a list into 18 bytes", join_accept_into_more),
-    ("a join-accept into an empty slice", join_accept_into_nothing),
-    ("a join-accept into 1 to 12 bytes", join_accept_into_short),
     ("a creator used again", creators_used_again),
     ("a frame of another type", other_type),
+    ("a checked join-accept, refused", refused_checked_join_accept),
+    ("a refused building", refused_building),
+    ("a join-accept into an empty slice", join_accept_into_nothing),
+    ("a join-accept into 1 to 12 bytes", join_accept_into_short),
+    ("a channel list into 17 bytes", list_into_seventeen),
+    ("a frame of 256 bytes, built into 255", long_building_into_255),
 ];
 
 /// Shows each and gives how many are not as written.
@@ -329,9 +332,10 @@ pub fn show_all() -> usize {
     let outcomes: Vec<(&str, Shown)> = ALL.map(|(what, run)| (what, run())).into();
     panic::set_hook(hook);
     let mut wrong = 0;
-    for (what, shown) in outcomes {
-        let verdict = if shown.as_written { "intended" } else { "NOT AS WRITTEN" };
-        println!("{verdict}: {what}: crate: {}; port: {}", shown.crate_says, shown.port_says);
+    for (place, (what, shown)) in outcomes.iter().enumerate() {
+        let verdict = if shown.as_written { "as written" } else { "NOT AS WRITTEN" };
+        let (theirs, ours) = (&shown.crate_says, &shown.port_says);
+        println!("difference {}, {verdict}: {what}: crate: {theirs}; port: {ours}", place + 1);
         wrong += usize::from(!shown.as_written);
     }
     wrong
