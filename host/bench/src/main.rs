@@ -12,7 +12,7 @@ use std::time::{Duration, Instant};
 /// Calls between two marks.
 const COUNTED: usize = 20;
 /// Rounds over a row; the best one counts, and within a round all take their turn.
-const ROUNDS: usize = 60;
+const ROUNDS: usize = 200;
 /// A turn lasts at least this long.
 const TURN: Duration = Duration::from_micros(300);
 

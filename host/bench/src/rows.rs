@@ -11,7 +11,7 @@ pub struct Row {
     pub what: &'static str,
     /// Bytes of the frame.
     pub size: usize,
-    /// Who does it, and the call.
+    /// Who does it, and the call: the port, the port afresh (where it amends), the crate over either cipher.
     pub calls: Vec<(&'static str, Call)>,
 }
 
@@ -45,7 +45,7 @@ fn with(mut buffer: Vec<u8>, mut call: impl FnMut(&mut [u8]) + 'static) -> Call 
 }
 
 fn row(what: &'static str, size: usize, port: Call, soft: Call, openssl: Call) -> Row {
-    Row { what, size, calls: vec![("port", port), ("crate, aes-soft", soft), ("crate, OpenSSL", openssl)] }
+    Row { what, size, calls: vec![("port", port), ("aes-soft", soft), ("OpenSSL", openssl)] }
 }
 
 fn read_row(size: usize) -> Row {
@@ -114,7 +114,7 @@ fn amend_row(what: &'static str, size: usize, from: usize, count: usize) -> Row 
         assert!(amend(frame, &NwkSKey(KEYS.0), &AppSKey(KEYS.1), COUNTER, &list).is_ok());
     });
     let mut row = row(what, size, amended, data_by_crate::<Soft>(size), data_by_crate::<OpenSsl>(size));
-    row.calls.insert(1, ("port, afresh", data_by_port(size)));
+    row.calls.insert(1, ("afresh", data_by_port(size)));
     row
 }
 
@@ -127,6 +127,7 @@ pub fn all() -> Vec<Row> {
     rows.extend(SIZES.map(data_row));
     rows.extend([join_request_row(), join_accept_row()]);
     for size in [50, 255] {
+        rows.push(amend_row("opening alone", size, 0, 0));
         rows.push(amend_row("amending the first byte", size, 0, 1));
         rows.push(amend_row("amending the last byte", size, size - 14, 1));
         rows.push(amend_row("amending eight bytes", size, 0, 8));
