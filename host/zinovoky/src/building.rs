@@ -85,6 +85,7 @@ impl JoinRequest {
     }
 
     /// Writes the frame at the front of `out` and gives its length. Refusal: 7.
+    #[inline]
     pub fn build_into(&self, app_key: &AppKey, out: &mut [u8]) -> Result<usize> {
         ffi::build_join_request(self, &app_key.0, out)
     }
@@ -131,6 +132,7 @@ impl JoinAccept<'_> {
     }
 
     /// Writes the frame, enciphered, at the front of `out` and gives its length. Refusals: 8, 7.
+    #[inline]
     pub fn build_into(&self, app_key: &AppKey, out: &mut [u8]) -> Result<usize> {
         let ([a, b, c], [d, e, f], [g, h, i, j]) = (self.app_nonce, self.net_id, self.dev_addr);
         let fixed = [a, b, c, d, e, f, g, h, i, j, self.dl_settings, self.rx_delay];
@@ -181,6 +183,7 @@ impl Data<'_> {
 
     /// Writes the frame at the front of `out`, which must have room for 255 bytes, and gives its length. Refusals:
     /// 7, 13, 9, 10, 11, 12.
+    #[inline]
     pub fn build_into(&self, nwk_skey: &NwkSKey, app_skey: &AppSKey, out: &mut [u8]) -> Result<usize> {
         ffi::build_data(self, &nwk_skey.0, &app_skey.0, out)
     }

@@ -84,6 +84,7 @@ mod c {
 type Key = [u8; 16];
 
 /// The low byte is the refusal's number or 0; above it stands what was built, as a length.
+#[inline]
 fn answered(answer: u64) -> Result<usize> {
     match answer as u8 {
         0 => Ok((answer >> 8) as usize),
@@ -92,6 +93,7 @@ fn answered(answer: u64) -> Result<usize> {
 }
 
 /// What `read` writes, in the header's order.
+#[inline]
 pub fn read(frame: &[u8]) -> Result<[u8; 12]> {
     let mut fields = [0; 12];
     // SAFETY: see the head of the file; `fields` has the room that is asked for.
@@ -99,6 +101,7 @@ pub fn read(frame: &[u8]) -> Result<[u8; 12]> {
     Ok(fields)
 }
 
+#[inline]
 pub fn join_request_mic(frame: &[u8], app_key: &Key) -> Result<bool> {
     let mut passes = 0;
     // SAFETY: see the head of the file.
@@ -106,6 +109,7 @@ pub fn join_request_mic(frame: &[u8], app_key: &Key) -> Result<bool> {
     Ok(passes == 1)
 }
 
+#[inline]
 pub fn join_accept_mic(frame: &[u8], app_key: &Key) -> Result<bool> {
     let mut passes = 0;
     // SAFETY: see the head of the file.
@@ -113,6 +117,7 @@ pub fn join_accept_mic(frame: &[u8], app_key: &Key) -> Result<bool> {
     Ok(passes == 1)
 }
 
+#[inline]
 pub fn data_mic(frame: &[u8], nwk_skey: &Key, counter: u32) -> Result<bool> {
     let mut passes = 0;
     // SAFETY: see the head of the file.
@@ -121,12 +126,14 @@ pub fn data_mic(frame: &[u8], nwk_skey: &Key, counter: u32) -> Result<bool> {
 }
 
 /// Which keys are given, in the header's way of saying it, and bytes for those that are not.
+#[inline]
 fn given<'a>(nwk_skey: Option<&'a Key>, app_skey: Option<&'a Key>) -> (u8, &'a Key, &'a Key) {
     const NONE: &Key = &[0; 16];
     let given = u8::from(nwk_skey.is_some()) + 2 * u8::from(app_skey.is_some());
     (given, nwk_skey.unwrap_or(NONE), app_skey.unwrap_or(NONE))
 }
 
+#[inline]
 pub fn decrypt_data(frame: &mut [u8], nwk: Option<&Key>, app: Option<&Key>, counter: u32) -> Result<()> {
     let (given, nwk, app) = given(nwk, app);
     let (place, length) = (frame.as_mut_ptr(), frame.len());
@@ -135,6 +142,7 @@ pub fn decrypt_data(frame: &mut [u8], nwk: Option<&Key>, app: Option<&Key>, coun
     Ok(())
 }
 
+#[inline]
 pub fn decrypt_data_checked(frame: &mut [u8], nwk: &Key, app: Option<&Key>, counter: u32) -> Result<()> {
     let (given, nwk, app) = given(Some(nwk), app);
     let (place, length) = (frame.as_mut_ptr(), frame.len());
@@ -143,12 +151,14 @@ pub fn decrypt_data_checked(frame: &mut [u8], nwk: &Key, app: Option<&Key>, coun
     Ok(())
 }
 
+#[inline]
 pub fn decrypt_join_accept(frame: &mut [u8], app_key: &Key) -> Result<()> {
     // SAFETY: see the head of the file.
     answered(unsafe { c::zinovoky_decrypt_join_accept(frame.as_mut_ptr(), frame.len(), app_key.as_ptr()) })?;
     Ok(())
 }
 
+#[inline]
 pub fn decrypt_join_accept_checked(frame: &mut [u8], app_key: &Key) -> Result<()> {
     // SAFETY: see the head of the file.
     answered(unsafe { c::zinovoky_decrypt_join_accept_checked(frame.as_mut_ptr(), frame.len(), app_key.as_ptr()) })?;
@@ -156,6 +166,7 @@ pub fn decrypt_join_accept_checked(frame: &mut [u8], app_key: &Key) -> Result<()
 }
 
 /// The network key, then the application key.
+#[inline]
 pub fn session_keys(frame: &[u8], dev_nonce: &[u8; 2], app_key: &Key) -> Result<(Key, Key)> {
     let mut keys = [[0; 16]; 2];
     let (place, room) = (keys.as_flattened_mut().as_mut_ptr(), 32);
@@ -167,6 +178,7 @@ pub fn session_keys(frame: &[u8], dev_nonce: &[u8; 2], app_key: &Key) -> Result<
     Ok((network, application))
 }
 
+#[inline]
 pub fn build_join_request(call: &crate::JoinRequest, app_key: &Key, out: &mut [u8]) -> Result<usize> {
     // SAFETY: see the head of the file; the EUIs have 8 bytes, the nonce 2.
     answered(unsafe {
@@ -182,6 +194,7 @@ pub fn build_join_request(call: &crate::JoinRequest, app_key: &Key, out: &mut [u
 }
 
 /// `fixed` is what stands ahead of the list: AppNonce, NetID, DevAddr, DLSettings, RxDelay.
+#[inline]
 pub fn build_join_accept(fixed: &[u8; 12], channels: Option<&[u32]>, app_key: &Key, out: &mut [u8]) -> Result<usize> {
     let list = channels.unwrap_or(&[]);
     // SAFETY: see the head of the file.
@@ -198,6 +211,7 @@ pub fn build_join_accept(fixed: &[u8; 12], channels: Option<&[u32]>, app_key: &K
     })
 }
 
+#[inline]
 pub fn build_data(call: &crate::Data, nwk_skey: &Key, app_skey: &Key, out: &mut [u8]) -> Result<usize> {
     /// Any number above 255 says that there is no port.
     const NO_PORT: u16 = 256;
@@ -221,6 +235,7 @@ pub fn build_data(call: &crate::Data, nwk_skey: &Key, app_skey: &Key, out: &mut 
     })
 }
 
+#[inline]
 pub fn amend(
     frame: &mut [u8],
     nwk_skey: &Key,

@@ -10,11 +10,13 @@ use crate::{ffi, AppKey, AppSKey, NwkSKey, Result, SessionKeys};
 /// assert_eq!(join_request_mic(&frame, &AppKey([1; 16])), Ok(true));
 /// assert_eq!(join_request_mic(&frame, &AppKey([2; 16])), Ok(false));
 /// ```
+#[inline]
 pub fn join_request_mic(frame: &[u8], app_key: &AppKey) -> Result<bool> {
     ffi::join_request_mic(frame, &app_key.0)
 }
 
 /// Tests the MIC of a join-accept that is clear already. Refusals: the reader's, and 4 for a frame of another type.
+#[inline]
 pub fn join_accept_mic(clear: &[u8], app_key: &AppKey) -> Result<bool> {
     ffi::join_accept_mic(clear, &app_key.0)
 }
@@ -28,6 +30,7 @@ pub fn join_accept_mic(clear: &[u8], app_key: &AppKey) -> Result<bool> {
 /// assert_eq!(data_mic(&frame, &NwkSKey([2; 16]), 1), Ok(true));
 /// assert_eq!(data_mic(&frame, &NwkSKey([2; 16]), 0x0001_0001), Ok(false));
 /// ```
+#[inline]
 pub fn data_mic(frame: &[u8], nwk_skey: &NwkSKey, counter: u32) -> Result<bool> {
     ffi::data_mic(frame, &nwk_skey.0, counter)
 }
@@ -44,6 +47,7 @@ pub fn data_mic(frame: &[u8], nwk_skey: &NwkSKey, counter: u32) -> Result<bool> 
 /// assert_eq!(data.payload, Payload::Data(b"hello"));
 /// # Ok::<(), Refusal>(())
 /// ```
+#[inline]
 pub fn decrypt_data(
     frame: &mut [u8],
     nwk_skey: Option<&NwkSKey>,
@@ -65,6 +69,7 @@ pub fn decrypt_data(
 /// assert_eq!(&frame[9..14], b"hello");
 /// # Ok::<(), Refusal>(())
 /// ```
+#[inline]
 pub fn decrypt_data_checked(
     frame: &mut [u8],
     nwk_skey: &NwkSKey,
@@ -76,12 +81,14 @@ pub fn decrypt_data_checked(
 
 /// Decrypts a join-accept where it lies, without a look at the MIC. Refusals: the reader's, and 4 for a frame of
 /// another type.
+#[inline]
 pub fn decrypt_join_accept(frame: &mut [u8], app_key: &AppKey) -> Result<()> {
     ffi::decrypt_join_accept(frame, &app_key.0)
 }
 
 /// Decrypts a join-accept where it lies if the MIC of its clear text is good; otherwise it stays as it is. Refusals:
 /// the reader's, 4 for a frame of another type, 5. [`crate::ClearJoinAccept`] shows what it says.
+#[inline]
 pub fn decrypt_join_accept_checked(frame: &mut [u8], app_key: &AppKey) -> Result<()> {
     ffi::decrypt_join_accept_checked(frame, &app_key.0)
 }
@@ -99,6 +106,7 @@ pub fn decrypt_join_accept_checked(frame: &mut [u8], app_key: &AppKey) -> Result
 /// assert_eq!(keys.app_skey.0[..4], [0x4f, 0x5c, 0x40, 0x97]);
 /// # Ok::<(), Refusal>(())
 /// ```
+#[inline]
 pub fn session_keys(clear: &[u8], dev_nonce: &[u8; 2], app_key: &AppKey) -> Result<SessionKeys> {
     let (network, application) = ffi::session_keys(clear, dev_nonce, &app_key.0)?;
     Ok(SessionKeys { nwk_skey: NwkSKey(network), app_skey: AppSKey(application) })
@@ -134,6 +142,7 @@ impl Amendment {
 /// assert_eq!(&frame[9..14], b"jelly");
 /// # Ok::<(), Refusal>(())
 /// ```
+#[inline]
 pub fn amend(
     frame: &mut [u8],
     nwk_skey: &NwkSKey,

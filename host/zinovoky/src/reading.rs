@@ -97,6 +97,7 @@ impl DataFields<'_> {
 }
 
 /// A part of the frame; the places come from the reader, which gives none outside the frame.
+#[inline]
 pub(crate) fn part(frame: &[u8], from: usize, to: usize) -> &[u8] {
     frame.get(from..to).unwrap_or(&[])
 }
@@ -120,6 +121,7 @@ pub(crate) fn part(frame: &[u8], from: usize, to: usize) -> &[u8] {
 /// assert_eq!(read(&[0x40; 256]), Err(Refusal::FrameTooLong));
 /// # Ok::<(), Refusal>(())
 /// ```
+#[inline]
 pub fn read(frame: &[u8]) -> Result<Reading<'_>> {
     let fields = ffi::read(frame)?;
     let [number, fctrl, low, high, fopts_end, has_port, port, payload, from, to, mic, length] = fields;

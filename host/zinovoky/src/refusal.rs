@@ -80,6 +80,7 @@ impl Refusal {
     /// assert_eq!(Refusal::from_number(0), None);
     /// assert_eq!(Refusal::from_number(16), None);
     /// ```
+    #[inline]
     pub fn from_number(number: u8) -> Option<Refusal> {
         Self::ALL.get(usize::from(number).checked_sub(1)?).copied()
     }
