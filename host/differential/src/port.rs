@@ -1,0 +1,194 @@
+//! The port on a case, its answer laid out as the oracle lays it out. Whatever is lent lies between guard bytes.
+
+use crosscheck::records::{Amend, BuildData, BuildJoinAccept, BuildJoinRequest, Case};
+use lorawan::keys::AES128;
+use zinovoky::*;
+
+/// Every byte of a lent output slice ahead of the call.
+pub const FILL: u8 = 0xA5;
+const GUARD: [u8; 8] = [0xE7; 8];
+
+/// Lends a copy of the bytes to a call; gives back the call's answer and the bytes as they then stand. The guard bytes
+/// on both sides must stay.
+fn lent<T>(bytes: &[u8], call: impl FnOnce(&mut [u8]) -> T) -> (T, Vec<u8>) {
+    let mut held = [&GUARD, bytes, &GUARD].concat();
+    let end = GUARD.len() + bytes.len();
+    let answer = call(&mut held[GUARD.len()..end]);
+    assert!(held.starts_with(&GUARD) && held[end..] == GUARD, "a byte outside the lent slice was written");
+    (answer, held[GUARD.len()..end].to_vec())
+}
+
+fn number<T>(answer: &Result<T>) -> u8 {
+    answer.as_ref().err().map_or(0, |refusal| refusal.number())
+}
+
+fn tested(answer: Result<bool>) -> Vec<u8> {
+    vec![number(&answer), answer.unwrap_or(false).into()]
+}
+
+fn changed(frame: &[u8], call: impl FnOnce(&mut [u8]) -> Result<()>) -> Vec<u8> {
+    let (answer, frame) = lent(frame, call);
+    [&[number(&answer)], &frame[..]].concat()
+}
+
+fn built(room: usize, call: impl FnOnce(&mut [u8]) -> Result<usize>) -> Vec<u8> {
+    let (answer, slice) = lent(&vec![FILL; room], call);
+    let length = (answer.unwrap_or(0) as u16).to_le_bytes();
+    [&[number(&answer)], &length[..], &slice].concat()
+}
+
+fn place(frame: &[u8], part: &[u8]) -> [u8; 2] {
+    let from = part.as_ptr() as usize - frame.as_ptr() as usize;
+    [from as u8, (from + part.len()) as u8]
+}
+
+fn data_read(frame: &[u8], data: &DataFields) -> Vec<u8> {
+    let mut out = vec![0, data.kind as u8];
+    out.extend(data.dev_addr);
+    out.push(data.fctrl);
+    out.extend([data.adr(), data.adr_ack_req(), data.ack(), data.f_pending()].map(u8::from));
+    out.extend(data.fcnt.to_le_bytes());
+    out.extend(place(frame, data.fopts));
+    out.extend(data.port.map_or([0, 0], |port| [1, port]));
+    let (kind, [from, to]) = match data.payload {
+        Payload::None => (0, [0, 0]),
+        Payload::Data(part) => (1, place(frame, part)),
+        Payload::Commands(part) => (2, place(frame, part)),
+    };
+    out.extend([kind, from, to]);
+    out.extend(data.mic);
+    out
+}
+
+fn reading(frame: &[u8]) -> Vec<u8> {
+    match read(frame) {
+        Err(refusal) => vec![refusal.number()],
+        Ok(Reading::JoinRequest(r)) => [&[0, 0], r.app_eui, r.dev_eui, r.dev_nonce, r.mic].concat(),
+        Ok(Reading::JoinAccept { length }) => vec![0, 1, length as u8],
+        Ok(Reading::Data(data)) => data_read(frame, &data),
+    }
+}
+
+fn clear_reading(frame: &[u8]) -> Vec<u8> {
+    let clear = match ClearJoinAccept::read(frame) {
+        Err(refusal) => return vec![refusal.number()],
+        Ok(clear) => clear,
+    };
+    let numbers = [clear.dl_settings(), clear.rx_delay()];
+    let mut out = [&[0], clear.app_nonce(), clear.net_id(), clear.dev_addr(), clear.mic(), &numbers].concat();
+    match (clear.channels(), clear.channel_mask()) {
+        (Some(channels), _) => {
+            out.push(1);
+            out.extend(channels.iter().flat_map(|channel| channel.to_le_bytes()));
+        }
+        (None, Some(mask)) => {
+            out.push(2);
+            out.extend(mask);
+        }
+        (None, None) => out.push(0),
+    }
+    out
+}
+
+fn join_request(call: &BuildJoinRequest) -> Vec<u8> {
+    let fields = JoinRequest { app_eui: call.app_eui, dev_eui: call.dev_eui, dev_nonce: call.dev_nonce };
+    built(call.room, |out| fields.build_into(&AppKey(call.app_key.0), out))
+}
+
+fn join_accept(call: &BuildJoinAccept) -> Vec<u8> {
+    let fields = JoinAccept {
+        app_nonce: call.app_nonce,
+        net_id: call.net_id,
+        dev_addr: call.dev_addr,
+        dl_settings: call.dl_settings,
+        rx_delay: call.rx_delay,
+        channels: call.channels.as_deref(),
+    };
+    built(call.room, |out| fields.build_into(&AppKey(call.app_key.0), out))
+}
+
+fn kind(confirmed: bool, uplink: bool) -> DataKind {
+    match (confirmed, uplink) {
+        (false, true) => DataKind::UnconfirmedUp,
+        (false, false) => DataKind::UnconfirmedDown,
+        (true, true) => DataKind::ConfirmedUp,
+        (true, false) => DataKind::ConfirmedDown,
+    }
+}
+
+fn data(call: &BuildData) -> Vec<u8> {
+    let fields = Data {
+        kind: kind(call.confirmed, call.uplink),
+        dev_addr: call.dev_addr,
+        fctrl: call.fctrl,
+        counter: call.counter,
+        port: call.port,
+        commands: &call.commands,
+        payload: &call.payload,
+    };
+    let keys = (NwkSKey(call.network.0), AppSKey(call.application.0));
+    built(call.room, |out| fields.build_into(&keys.0, &keys.1, out))
+}
+
+/// The list as a whole: one number, then the frame.
+fn amended(call: &Amend) -> Vec<u8> {
+    let list: Vec<Amendment> = call.amendments.iter().map(|&(at, value)| Amendment::new(at as usize, value)).collect();
+    let keys = (NwkSKey(call.network.0), AppSKey(call.application.0));
+    changed(&call.frame, |frame| amend(frame, &keys.0, &keys.1, call.counter, &list))
+}
+
+fn keys(clear: &[u8], dev_nonce: &[u8; 2], app_key: &AES128) -> Vec<u8> {
+    match session_keys(clear, dev_nonce, &AppKey(app_key.0)) {
+        Err(refusal) => [&[refusal.number()][..], &[0; 32]].concat(),
+        Ok(keys) => [&[0], &keys.nwk_skey.0[..], &keys.app_skey.0].concat(),
+    }
+}
+
+/// The port's answer. Of an amendment: the number of the call, then the frame.
+pub fn answer(case: &Case) -> Vec<u8> {
+    let network = |key: &AES128| NwkSKey(key.0);
+    let application = |key: &Option<AES128>| key.as_ref().map(|key| AppSKey(key.0));
+    match case {
+        Case::MicJoinRequest { app_key, frame } => tested(join_request_mic(frame, &AppKey(app_key.0))),
+        Case::MicJoinAccept { app_key, frame } => tested(join_accept_mic(frame, &AppKey(app_key.0))),
+        Case::MicData { network: key, counter, frame } => tested(data_mic(frame, &network(key), *counter)),
+        Case::DecryptData { network: key, application: app, counter, frame } => changed(frame, |frame| {
+            decrypt_data(frame, key.as_ref().map(network).as_ref(), application(app).as_ref(), *counter)
+        }),
+        Case::DecryptDataChecked { network: key, application: app, counter, frame } => {
+            changed(frame, |frame| decrypt_data_checked(frame, &network(key), application(app).as_ref(), *counter))
+        }
+        Case::DecryptJoinAccept { app_key, frame } => {
+            changed(frame, |frame| decrypt_join_accept(frame, &AppKey(app_key.0)))
+        }
+        Case::DecryptJoinAcceptChecked { app_key, frame } => {
+            changed(frame, |frame| decrypt_join_accept_checked(frame, &AppKey(app_key.0)))
+        }
+        Case::SessionKeys { app_key, dev_nonce, frame } => keys(frame, dev_nonce, app_key),
+        Case::BuildJoinRequest(call) => join_request(call),
+        Case::BuildJoinAccept(call) => join_accept(call),
+        Case::BuildData(call) => data(call),
+        Case::Amend(call) => amended(call),
+        Case::Read { frame } => reading(frame),
+        Case::ReadClearJoinAccept { frame } => clear_reading(frame),
+    }
+}
+
+/// What a refusal must look like: its number, zeros, and the caller's bytes as they were.
+pub fn refused(case: &Case, number: u8) -> Vec<u8> {
+    let with = |rest: &[u8]| [&[number], rest].concat();
+    let slice = |room: usize| [&[number, 0, 0], &vec![FILL; room][..]].concat();
+    match case {
+        Case::MicJoinRequest { .. } | Case::MicJoinAccept { .. } | Case::MicData { .. } => with(&[0]),
+        Case::DecryptData { frame, .. }
+        | Case::DecryptDataChecked { frame, .. }
+        | Case::DecryptJoinAccept { frame, .. }
+        | Case::DecryptJoinAcceptChecked { frame, .. } => with(frame),
+        Case::Amend(call) => with(&call.frame),
+        Case::SessionKeys { .. } => with(&[0; 32]),
+        Case::BuildJoinRequest(call) => slice(call.room),
+        Case::BuildJoinAccept(call) => slice(call.room),
+        Case::BuildData(call) => slice(call.room),
+        Case::Read { .. } | Case::ReadClearJoinAccept { .. } => with(&[]),
+    }
+}

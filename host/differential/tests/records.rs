@@ -1,0 +1,35 @@
+//! Case files are written as they are read, and the recorded answers are the crate's, over either cipher.
+
+use crosscheck::records::{answers, cases};
+use crosscheck::{judge, Judge, Judged};
+use differential::cases::any;
+use differential::encode::record;
+use differential::random::Random;
+use factory::{OpenSsl, Soft};
+use std::path::Path;
+
+#[test]
+fn written_and_read() {
+    let mut random = Random::new(7);
+    let file: Vec<u8> = (0..5000).flat_map(|_| record(&any(&mut random))).collect();
+    let again: Vec<u8> = cases(&file).iter().flat_map(record).collect();
+    assert_eq!(file, again);
+}
+
+fn recorded<F: Judge>(list: &str) -> usize {
+    let path = Path::new(env!("CARGO_MANIFEST_DIR")).join("../recorded").join(list);
+    let cases = cases(&std::fs::read(path.with_extension("stdin")).unwrap());
+    let answers = answers(&std::fs::read_to_string(path.with_extension("stdout")).unwrap());
+    assert_eq!(cases.len(), answers.len());
+    for (case, answer) in cases.iter().zip(answers) {
+        assert!(matches!(judge::<F>(case), Judged::Whole(theirs) if theirs == answer));
+    }
+    cases.len()
+}
+
+#[test]
+fn recorded_answers() {
+    let lists = ["read", "opened", "built"];
+    assert_eq!(lists.map(recorded::<OpenSsl>), [200, 800, 150]);
+    assert_eq!(lists.map(recorded::<Soft>), [200, 800, 150]);
+}

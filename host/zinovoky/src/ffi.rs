@@ -1,0 +1,251 @@
+//! The calls of the C interface (crates/frame_c/zinovoky.h) behind safe functions: the only file with `unsafe`.
+//!
+//! What makes them safe is the same everywhere: a slice goes over as its own pointer and length, a fixed array as a
+//! pointer to as many bytes as the header asks for, and the borrow checker keeps what is written apart from the rest.
+
+use crate::{Refusal, Result};
+
+mod c {
+    extern "C" {
+        pub fn zinovoky_read(frame: *const u8, frame_len: usize, fields: *mut u8, fields_len: usize) -> u64;
+        pub fn zinovoky_join_request_mic(frame: *const u8, len: usize, app_key: *const u8, passes: *mut u8) -> u64;
+        pub fn zinovoky_join_accept_mic(frame: *const u8, len: usize, app_key: *const u8, passes: *mut u8) -> u64;
+        pub fn zinovoky_data_mic(frame: *const u8, len: usize, key: *const u8, counter: u32, passes: *mut u8) -> u64;
+        pub fn zinovoky_decrypt_data(
+            frame: *mut u8,
+            frame_len: usize,
+            keys_given: u8,
+            nwk_skey: *const u8,
+            app_skey: *const u8,
+            counter: u32,
+        ) -> u64;
+        pub fn zinovoky_decrypt_data_checked(
+            frame: *mut u8,
+            frame_len: usize,
+            keys_given: u8,
+            nwk_skey: *const u8,
+            app_skey: *const u8,
+            counter: u32,
+        ) -> u64;
+        pub fn zinovoky_decrypt_join_accept(frame: *mut u8, frame_len: usize, app_key: *const u8) -> u64;
+        pub fn zinovoky_decrypt_join_accept_checked(frame: *mut u8, frame_len: usize, app_key: *const u8) -> u64;
+        pub fn zinovoky_session_keys(
+            frame: *const u8,
+            frame_len: usize,
+            dev_nonce: *const u8,
+            app_key: *const u8,
+            keys: *mut u8,
+            keys_len: usize,
+        ) -> u64;
+        pub fn zinovoky_build_join_request(
+            app_eui: *const u8,
+            dev_eui: *const u8,
+            dev_nonce: *const u8,
+            app_key: *const u8,
+            out: *mut u8,
+            out_len: usize,
+        ) -> u64;
+        pub fn zinovoky_build_join_accept(
+            fixed: *const u8,
+            with_list: u8,
+            channels: *const u32,
+            channels_len: usize,
+            app_key: *const u8,
+            out: *mut u8,
+            out_len: usize,
+        ) -> u64;
+        pub fn zinovoky_build_data(
+            kind: u8,
+            dev_addr: *const u8,
+            fctrl: u8,
+            counter: u32,
+            port: u16,
+            commands: *const u8,
+            commands_len: usize,
+            payload: *const u8,
+            payload_len: usize,
+            nwk_skey: *const u8,
+            app_skey: *const u8,
+            out: *mut u8,
+            out_len: usize,
+        ) -> u64;
+        pub fn zinovoky_amend(
+            frame: *mut u8,
+            frame_len: usize,
+            nwk_skey: *const u8,
+            app_skey: *const u8,
+            counter: u32,
+            amendments: *const u32,
+            amendments_len: usize,
+        ) -> u64;
+    }
+}
+
+type Key = [u8; 16];
+
+/// The low byte is the refusal's number or 0; above it stands what was built, as a length.
+#[inline]
+fn answered(answer: u64) -> Result<usize> {
+    match answer as u8 {
+        0 => Ok((answer >> 8) as usize),
+        number => Err(Refusal::from_number(number).unwrap_or(Refusal::InvalidData)),
+    }
+}
+
+/// What `read` writes, in the header's order.
+#[inline]
+pub fn read(frame: &[u8]) -> Result<[u8; 12]> {
+    let mut fields = [0; 12];
+    // SAFETY: see the head of the file; `fields` has the room that is asked for.
+    answered(unsafe { c::zinovoky_read(frame.as_ptr(), frame.len(), fields.as_mut_ptr(), fields.len()) })?;
+    Ok(fields)
+}
+
+#[inline]
+pub fn join_request_mic(frame: &[u8], app_key: &Key) -> Result<bool> {
+    let mut passes = 0;
+    // SAFETY: see the head of the file.
+    answered(unsafe { c::zinovoky_join_request_mic(frame.as_ptr(), frame.len(), app_key.as_ptr(), &mut passes) })?;
+    Ok(passes == 1)
+}
+
+#[inline]
+pub fn join_accept_mic(frame: &[u8], app_key: &Key) -> Result<bool> {
+    let mut passes = 0;
+    // SAFETY: see the head of the file.
+    answered(unsafe { c::zinovoky_join_accept_mic(frame.as_ptr(), frame.len(), app_key.as_ptr(), &mut passes) })?;
+    Ok(passes == 1)
+}
+
+#[inline]
+pub fn data_mic(frame: &[u8], nwk_skey: &Key, counter: u32) -> Result<bool> {
+    let mut passes = 0;
+    // SAFETY: see the head of the file.
+    answered(unsafe { c::zinovoky_data_mic(frame.as_ptr(), frame.len(), nwk_skey.as_ptr(), counter, &mut passes) })?;
+    Ok(passes == 1)
+}
+
+/// Which keys are given, in the header's way of saying it, and bytes for those that are not.
+#[inline]
+fn given<'a>(nwk_skey: Option<&'a Key>, app_skey: Option<&'a Key>) -> (u8, &'a Key, &'a Key) {
+    const NONE: &Key = &[0; 16];
+    let given = u8::from(nwk_skey.is_some()) + 2 * u8::from(app_skey.is_some());
+    (given, nwk_skey.unwrap_or(NONE), app_skey.unwrap_or(NONE))
+}
+
+#[inline]
+pub fn decrypt_data(frame: &mut [u8], nwk: Option<&Key>, app: Option<&Key>, counter: u32) -> Result<()> {
+    let (given, nwk, app) = given(nwk, app);
+    let (place, length) = (frame.as_mut_ptr(), frame.len());
+    // SAFETY: see the head of the file.
+    answered(unsafe { c::zinovoky_decrypt_data(place, length, given, nwk.as_ptr(), app.as_ptr(), counter) })?;
+    Ok(())
+}
+
+#[inline]
+pub fn decrypt_data_checked(frame: &mut [u8], nwk: &Key, app: Option<&Key>, counter: u32) -> Result<()> {
+    let (given, nwk, app) = given(Some(nwk), app);
+    let (place, length) = (frame.as_mut_ptr(), frame.len());
+    // SAFETY: see the head of the file.
+    answered(unsafe { c::zinovoky_decrypt_data_checked(place, length, given, nwk.as_ptr(), app.as_ptr(), counter) })?;
+    Ok(())
+}
+
+#[inline]
+pub fn decrypt_join_accept(frame: &mut [u8], app_key: &Key) -> Result<()> {
+    // SAFETY: see the head of the file.
+    answered(unsafe { c::zinovoky_decrypt_join_accept(frame.as_mut_ptr(), frame.len(), app_key.as_ptr()) })?;
+    Ok(())
+}
+
+#[inline]
+pub fn decrypt_join_accept_checked(frame: &mut [u8], app_key: &Key) -> Result<()> {
+    // SAFETY: see the head of the file.
+    answered(unsafe { c::zinovoky_decrypt_join_accept_checked(frame.as_mut_ptr(), frame.len(), app_key.as_ptr()) })?;
+    Ok(())
+}
+
+/// The network key, then the application key.
+#[inline]
+pub fn session_keys(frame: &[u8], dev_nonce: &[u8; 2], app_key: &Key) -> Result<(Key, Key)> {
+    let mut keys = [[0; 16]; 2];
+    let (place, room) = (keys.as_flattened_mut().as_mut_ptr(), 32);
+    // SAFETY: see the head of the file; two keys are 32 bytes without a gap.
+    answered(unsafe {
+        c::zinovoky_session_keys(frame.as_ptr(), frame.len(), dev_nonce.as_ptr(), app_key.as_ptr(), place, room)
+    })?;
+    let [network, application] = keys;
+    Ok((network, application))
+}
+
+#[inline]
+pub fn build_join_request(call: &crate::JoinRequest, app_key: &Key, out: &mut [u8]) -> Result<usize> {
+    // SAFETY: see the head of the file; the EUIs have 8 bytes, the nonce 2.
+    answered(unsafe {
+        c::zinovoky_build_join_request(
+            call.app_eui.as_ptr(),
+            call.dev_eui.as_ptr(),
+            call.dev_nonce.as_ptr(),
+            app_key.as_ptr(),
+            out.as_mut_ptr(),
+            out.len(),
+        )
+    })
+}
+
+/// `fixed` is what stands ahead of the list: AppNonce, NetID, DevAddr, DLSettings, RxDelay.
+#[inline]
+pub fn build_join_accept(fixed: &[u8; 12], channels: Option<&[u32]>, app_key: &Key, out: &mut [u8]) -> Result<usize> {
+    let list = channels.unwrap_or(&[]);
+    // SAFETY: see the head of the file.
+    answered(unsafe {
+        c::zinovoky_build_join_accept(
+            fixed.as_ptr(),
+            channels.is_some().into(),
+            list.as_ptr(),
+            list.len(),
+            app_key.as_ptr(),
+            out.as_mut_ptr(),
+            out.len(),
+        )
+    })
+}
+
+#[inline]
+pub fn build_data(call: &crate::Data, nwk_skey: &Key, app_skey: &Key, out: &mut [u8]) -> Result<usize> {
+    /// Any number above 255 says that there is no port.
+    const NO_PORT: u16 = 256;
+    // SAFETY: see the head of the file; the address has 4 bytes.
+    answered(unsafe {
+        c::zinovoky_build_data(
+            call.kind as u8,
+            call.dev_addr.as_ptr(),
+            call.fctrl,
+            call.counter,
+            call.port.map_or(NO_PORT, u16::from),
+            call.commands.as_ptr(),
+            call.commands.len(),
+            call.payload.as_ptr(),
+            call.payload.len(),
+            nwk_skey.as_ptr(),
+            app_skey.as_ptr(),
+            out.as_mut_ptr(),
+            out.len(),
+        )
+    })
+}
+
+#[inline]
+pub fn amend(
+    frame: &mut [u8],
+    nwk_skey: &Key,
+    app_skey: &Key,
+    counter: u32,
+    amendments: &[crate::Amendment],
+) -> Result<()> {
+    let (place, length) = (frame.as_mut_ptr(), frame.len());
+    let (list, count) = (amendments.as_ptr().cast::<u32>(), amendments.len());
+    // SAFETY: see the head of the file; an Amendment is a transparent u32.
+    answered(unsafe { c::zinovoky_amend(place, length, nwk_skey.as_ptr(), app_skey.as_ptr(), counter, list, count) })?;
+    Ok(())
+}

@@ -1,0 +1,110 @@
+//! The scope document's examples P1 to P16, and calls on every length.
+
+use zinovoky::*;
+
+fn frame(first: u8, length: usize, set: &[(usize, u8)]) -> Vec<u8> {
+    let mut frame = vec![0; length];
+    frame[0] = first;
+    set.iter().for_each(|&(place, value)| frame[place] = value);
+    frame
+}
+
+fn number(frame: &[u8]) -> u8 {
+    read(frame).err().map_or(0, Refusal::number)
+}
+
+fn data(frame: &[u8]) -> DataFields<'_> {
+    match read(frame) {
+        Ok(Reading::Data(data)) => data,
+        other => panic!("not data: {other:?}"),
+    }
+}
+
+#[test]
+fn refused() {
+    assert_eq!(number(&[]), 1); // P1
+    assert_eq!(number(&frame(0x43, 11, &[])), 1); // P2
+    assert_eq!(number(&frame(0x40, 12, &[(5, 1)])), 4); // P4
+    assert_eq!(number(&frame(0x41, 12, &[])), 2); // P8
+    assert_eq!(number(&frame(0xc0, 12, &[])), 3); // P9
+    assert_eq!([22, 23].map(|length| number(&frame(0x00, length, &[]))), [4, 0]); // P10
+    assert_eq!([17, 18, 33].map(|length| number(&frame(0x20, length, &[]))), [0, 4, 0]); // P11
+    assert_eq!(number(&frame(0x40, 256, &[])), 12); // P12
+}
+
+#[test]
+fn accepted() {
+    for first in [0x40, 0x5c] {
+        let bare = frame(first, 12, &[]); // P3, P13
+        assert_eq!((data(&bare).port, data(&bare).payload), (None, Payload::None));
+    }
+    let fopts = frame(0x40, 13, &[(5, 1), (8, 9)]); // P5
+    assert_eq!((data(&fopts).fopts, data(&fopts).payload), (&[9][..], Payload::None));
+    let empty = frame(0x40, 13, &[]); // P6
+    assert_eq!((data(&empty).port, data(&empty).payload), (None, Payload::Data(&[])));
+    let commands = frame(0x40, 14, &[(9, 7)]); // P7
+    assert_eq!((data(&commands).port, data(&commands).payload), (Some(0), Payload::Commands(&[7])));
+}
+
+const KEYS: (NwkSKey, AppSKey) = (NwkSKey([2; 16]), AppSKey([1; 16]));
+
+/// P14: the high half is the caller's, the low half the frame's.
+#[test]
+fn counter() {
+    let fields = Data {
+        kind: DataKind::UnconfirmedUp,
+        dev_addr: [1; 4],
+        fctrl: 0,
+        counter: 0x0001_0002,
+        port: Some(1),
+        commands: &[],
+        payload: b"counted",
+    };
+    let mut frame = fields.build(&KEYS.0, &KEYS.1).unwrap();
+    decrypt_data(frame.as_mut_bytes(), None, Some(&KEYS.1), 0x0001_ffff).unwrap();
+    assert_eq!(data(&frame).payload, Payload::Data(b"counted"));
+}
+
+#[test]
+fn longest() {
+    let bytes = [0; 243];
+    for (commands, payload) in [(0, 242), (15, 227)] {
+        // P15, P16
+        let built = |payload| {
+            let fields = Data {
+                kind: DataKind::UnconfirmedUp,
+                dev_addr: [1; 4],
+                fctrl: 0,
+                counter: 1,
+                port: Some(1),
+                commands: &bytes[..commands],
+                payload: &bytes[..payload],
+            };
+            fields.build(&KEYS.0, &KEYS.1).map(|frame| frame.len())
+        };
+        assert_eq!((built(payload), built(payload + 1)), (Ok(255), Err(Refusal::FrameTooLong)));
+    }
+}
+
+/// Each call on each first byte and length: a result or a refusal, and what is refused stays as it was.
+#[test]
+fn every_length() {
+    let app_key = AppKey([3; 16]);
+    for first in 0..=255 {
+        for length in (0..40).chain(250..260) {
+            let bytes: Vec<u8> = (0..length).map(|i| if i == 0 { first } else { i as u8 }).collect();
+            let _ = (read(&bytes), ClearJoinAccept::read(&bytes), session_keys(&bytes, &[0; 2], &app_key));
+            let _ = (join_request_mic(&bytes, &app_key), join_accept_mic(&bytes, &app_key));
+            let _ = data_mic(&bytes, &KEYS.0, 7);
+            let unchanged = |call: &dyn Fn(&mut [u8]) -> Result<()>| {
+                let mut copy = bytes.clone();
+                assert!(call(&mut copy).is_ok() || copy == bytes);
+            };
+            unchanged(&|frame| decrypt_data(frame, Some(&KEYS.0), None, 7));
+            unchanged(&|frame| decrypt_data_checked(frame, &KEYS.0, None, 7));
+            unchanged(&|frame| decrypt_join_accept(frame, &app_key));
+            unchanged(&|frame| decrypt_join_accept_checked(frame, &app_key));
+            unchanged(&|frame| amend(frame, &KEYS.0, &KEYS.1, 7, &[Amendment::new(usize::MAX, 0)]));
+        }
+    }
+}
