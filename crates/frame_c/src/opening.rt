@@ -1,9 +1,12 @@
 // MIC tests, decryption and session keys.
 ghost use mathlib.Core.Path.{_≡_};
-ghost use Rattle.secure.specs.Opening.{joinRequestTest, joinAcceptTest, dataTest};
-ghost use Rattle.frame_c.specs.Answers.{testAnswer, passesOf};
+ghost use Rattle.secure.specs.Opening.{joinRequestTest, joinAcceptTest, dataTest, dataOpened, dataOpenedChecked, acceptOpened, acceptOpenedChecked};
+ghost use Rattle.frame_c.specs.Answers.{testAnswer, passesOf, openingAnswer};
+ghost use Rattle.frame_c.specs.Given.{nwkGiven, appGiven};
+use crate::answers::opening_answer;
 use crate::answers::passes_of;
 use crate::answers::test_answer;
+use frame::keys::MaybeKey;
 
 #[no_mangle]
 pub extern "C" fn zinovoky_join_request_mic(
@@ -54,4 +57,80 @@ pub extern "C" fn zinovoky_data_mic(
     let was = *passes;
     *passes = passes_of(test, was);
     test_answer(test)
+}
+
+// The network key, and the application key, by whether they are given.
+fn nwk_given(keys: u8, key: [u8; 16]) -> MaybeKey
+    ensures { λ r. ⌜ r ≡ nwkGiven keys key ⌝ }
+{
+    MaybeKey {
+        given: keys % 2 == 1,
+        key,
+    }
+}
+
+fn app_given(keys: u8, key: [u8; 16]) -> MaybeKey
+    ensures { λ r. ⌜ r ≡ appGiven keys key ⌝ }
+{
+    MaybeKey {
+        given: keys / 2 % 2 == 1,
+        key,
+    }
+}
+
+#[no_mangle]
+pub extern "C" fn zinovoky_decrypt_data(
+    frame: &mut [u8],
+    keys_given: u8,
+    nwk_skey: &[u8; 16],
+    app_skey: &[u8; 16],
+    counter: u32,
+) -> u64
+    ensures { λ r. ⌜ r ≡ openingAnswer (dataOpened (nwkGiven «keys_given» (now («nwk_skey» .entry))) (appGiven «keys_given» (now («app_skey» .entry))) counter (now (frame .entry)) .answer) ⌝ }
+    ensures { λ _. ⌜ now (frame .exit) ≡ dataOpened (nwkGiven «keys_given» (now («nwk_skey» .entry))) (appGiven «keys_given» (now («app_skey» .entry))) counter (now (frame .entry)) .bytes ⌝ }
+{
+    let nwk_key = *nwk_skey;
+    let app_key = *app_skey;
+    let nwk = nwk_given(keys_given, nwk_key);
+    let app = app_given(keys_given, app_key);
+    let opening = secure::payload::decrypt_data(frame, nwk, app, counter);
+    opening_answer(opening)
+}
+
+#[no_mangle]
+pub extern "C" fn zinovoky_decrypt_data_checked(
+    frame: &mut [u8],
+    keys_given: u8,
+    nwk_skey: &[u8; 16],
+    app_skey: &[u8; 16],
+    counter: u32,
+) -> u64
+    ensures { λ r. ⌜ r ≡ openingAnswer (dataOpenedChecked (now («nwk_skey» .entry)) (appGiven «keys_given» (now («app_skey» .entry))) counter (now (frame .entry)) .answer) ⌝ }
+    ensures { λ _. ⌜ now (frame .exit) ≡ dataOpenedChecked (now («nwk_skey» .entry)) (appGiven «keys_given» (now («app_skey» .entry))) counter (now (frame .entry)) .bytes ⌝ }
+{
+    let nwk_key = *nwk_skey;
+    let app_key = *app_skey;
+    let app = app_given(keys_given, app_key);
+    let opening = secure::default_crypto::decrypt_data_checked(frame, nwk_key, app, counter);
+    opening_answer(opening)
+}
+
+#[no_mangle]
+pub extern "C" fn zinovoky_decrypt_join_accept(frame: &mut [u8], app_key: &[u8; 16]) -> u64
+    ensures { λ r. ⌜ r ≡ openingAnswer (acceptOpened (now («app_key» .entry)) (now (frame .entry)) .answer) ⌝ }
+    ensures { λ _. ⌜ now (frame .exit) ≡ acceptOpened (now («app_key» .entry)) (now (frame .entry)) .bytes ⌝ }
+{
+    let key = *app_key;
+    let opening = secure::payload::decrypt_join_accept(frame, key);
+    opening_answer(opening)
+}
+
+#[no_mangle]
+pub extern "C" fn zinovoky_decrypt_join_accept_checked(frame: &mut [u8], app_key: &[u8; 16]) -> u64
+    ensures { λ r. ⌜ r ≡ openingAnswer (acceptOpenedChecked (now («app_key» .entry)) (now (frame .entry)) .answer) ⌝ }
+    ensures { λ _. ⌜ now (frame .exit) ≡ acceptOpenedChecked (now («app_key» .entry)) (now (frame .entry)) .bytes ⌝ }
+{
+    let key = *app_key;
+    let opening = secure::default_crypto::decrypt_join_accept_checked(frame, key);
+    opening_answer(opening)
 }
