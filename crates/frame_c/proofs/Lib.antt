@@ -1,1 +1,2 @@
+mod Buildings
 mod Opened

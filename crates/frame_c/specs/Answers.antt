@@ -1,7 +1,14 @@
 -- What the functions for C answer: one number for each case of each answer, the refusal's number of document 01 (0 where
--- there is none) in its low byte, and the place of the refusal above it.
+-- there is none) in its low byte, and above it the place of the refusal or, of a building, the frame's length.
 -- Assumes nothing.
+use mathlib.Core.Path.{_≡_}
+use mathlib.Core.List.{List}
 use Prim.Native.Nat.{ℕ, _+_, _*_, _%_}
+use lib.ListN.{length}
+use Rattle.amend.specs.declared.Outcome.{Outcome}
+use Rattle.build.specs.Frames.{builtOf, outOf}
+use Rattle.build.specs.declared.creator.Built.{Built}
+use Rattle.build.specs.declared.creator.Built.the-variants.{Frame, Refused as RefusedBuilding}
 use Rattle.secure.specs.Opening.{testNumber, testPlace, openingNumber, openingPlace}
 use Rattle.secure.specs.declared.payload.MicTest.{MicTest}
 use Rattle.secure.specs.declared.payload.MicTest.the-variants.{Passes, Fails, Refused}
@@ -24,3 +31,25 @@ passesOf (Refused n p) was = was
 -- an opening
 abbrev pub openingAnswer : Opening → ℕ
 openingAnswer o = answerOf (openingNumber o) (openingPlace o)
+
+-- amendments to a lent frame
+abbrev pub outcomeAnswer : Outcome → ℕ
+outcomeAnswer o = answerOf (o .number) (o .place)
+
+-- a building: the frame's length, or the number and the place of the refusal
+abbrev pub builtNumber : Built → ℕ
+builtNumber (Frame n) = 0
+builtNumber (RefusedBuilding n p) = n
+
+abbrev pub builtValue : Built → ℕ
+builtValue (Frame n) = n
+builtValue (RefusedBuilding n p) = p
+
+abbrev pub builtAnswer : Built → ℕ
+builtAnswer b = answerOf (builtNumber b) (builtValue b)
+
+-- what a call promises that builds a frame, or is refused by a number that is not 0: its answer r, and the output e, of
+-- the output l as it was
+pub record Builds (refusal : ℕ) (frame l : List ℕ) (r : ℕ) (e : List ℕ) : Type 0 where
+  pub answer : r ≡ builtAnswer (builtOf refusal (length frame))
+  pub output : e ≡ outOf refusal frame l
