@@ -1,2 +1,3 @@
 mod Buildings
+mod Fillings
 mod Opened

@@ -4,7 +4,9 @@
 use mathlib.Core.Path.{_≡_}
 use mathlib.Core.List.{List}
 use Prim.Native.Nat.{ℕ, _+_, _*_, _%_}
+use lib.Dec.{ltb, eqb}
 use lib.ListN.{length}
+use Rattle.base.specs.Bytes.{pick}
 use Rattle.amend.specs.declared.Outcome.{Outcome}
 use Rattle.build.specs.Frames.{builtOf, outOf}
 use Rattle.build.specs.declared.creator.Built.{Built}
@@ -53,3 +55,13 @@ builtAnswer b = answerOf (builtNumber b) (builtValue b)
 pub record Builds (refusal : ℕ) (frame l : List ℕ) (r : ℕ) (e : List ℕ) : Type 0 where
   pub answer : r ≡ builtAnswer (builtOf refusal (length frame))
   pub output : e ≡ outOf refusal frame l
+
+-- a refusal if there is one, then 7 where the output has room for fewer than so many bytes
+unfoldable pub orShort : ℕ → ℕ → ℕ → ℕ
+orShort refusal bytes room = pick (eqb refusal 0) (pick (ltb room bytes) 7 0) refusal
+
+-- what a call promises that stores its answer's bytes, or is refused: its answer r, and the output e, of the output l as
+-- it was
+pub record Fills (refusal place : ℕ) (bytes l : List ℕ) (r : ℕ) (e : List ℕ) : Type 0 where
+  pub answer : r ≡ answerOf refusal place
+  pub output : e ≡ outOf refusal bytes l

@@ -4,3 +4,5 @@ mod amending;
 mod answers;
 mod building;
 mod opening;
+mod reading;
+mod storing;

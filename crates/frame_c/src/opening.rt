@@ -1,11 +1,16 @@
 // MIC tests, decryption and session keys.
 ghost use mathlib.Core.Path.{_≡_};
-ghost use Rattle.secure.specs.Opening.{joinRequestTest, joinAcceptTest, dataTest, dataOpened, dataOpenedChecked, acceptOpened, acceptOpenedChecked};
-ghost use Rattle.frame_c.specs.Answers.{testAnswer, passesOf, openingAnswer};
+ghost use mathlib.Core.List.{_++_};
+ghost use lib.ListN.{length};
+ghost use Rattle.secure.specs.Opening.{joinRequestTest, joinAcceptTest, dataTest, dataOpened, dataOpenedChecked, acceptOpened, acceptOpenedChecked, sessionKeys};
+ghost use Rattle.frame_c.specs.Answers.{testAnswer, passesOf, openingAnswer, orShort, Fills};
 ghost use Rattle.frame_c.specs.Given.{nwkGiven, appGiven};
+use crate::answers::answer;
 use crate::answers::opening_answer;
 use crate::answers::passes_of;
 use crate::answers::test_answer;
+use crate::storing::or_short;
+use crate::storing::put;
 use frame::keys::MaybeKey;
 
 #[no_mangle]
@@ -133,4 +138,34 @@ pub extern "C" fn zinovoky_decrypt_join_accept_checked(frame: &mut [u8], app_key
     let key = *app_key;
     let opening = secure::default_crypto::decrypt_join_accept_checked(frame, key);
     opening_answer(opening)
+}
+
+pub(crate) const KEYS_LEN: usize = 32;
+
+#[no_mangle]
+pub extern "C" fn zinovoky_session_keys(
+    frame: &[u8],
+    dev_nonce: &[u8; 2],
+    app_key: &[u8; 16],
+    keys: &mut [u8],
+) -> u64
+    ensures { λ r.
+        ⌜ Fills (orShort ((sessionKeys (now («app_key» .entry)) (now («dev_nonce» .entry)) (now (frame .entry))) .number) 32 (length (now (keys .entry))))
+        ((sessionKeys (now («app_key» .entry)) (now («dev_nonce» .entry)) (now (frame .entry))) .place)
+        ((sessionKeys (now («app_key» .entry)) (now («dev_nonce» .entry)) (now (frame .entry))) .«nwk_skey» ++ (sessionKeys (now («app_key» .entry)) (now («dev_nonce» .entry)) (now (frame .entry))) .«app_skey»)
+        (now (keys .entry)) r (now (keys .exit)) ⌝ }
+{
+    let nonce = *dev_nonce;
+    let key = *app_key;
+    let session = secure::payload::session_keys(frame, nonce, key);
+    let place = session.place;
+    let refusal = or_short(session.number, KEYS_LEN, keys.len());
+    if refusal != 0 {
+        return answer(refusal, place);
+    }
+    let nwk_skey = session.nwk_skey;
+    let app_skey = session.app_skey;
+    let end = put(keys, 0, &nwk_skey);
+    put(keys, end, &app_skey);
+    answer(0, place)
 }
