@@ -39,13 +39,15 @@ extern "C" {
  * frame's length. Of a join message all but the type, the place of the MIC and the length are 0. */
 uint64_t zinovoky_read(const uint8_t *frame, size_t frame_len, uint8_t *fields, size_t fields_len);
 
-/* Tests the MIC of a join-request, of a join-accept that is given clear, and of a data frame. `passes` becomes 1 or 0. */
+/* Tests the MIC of a join-request, of a join-accept that is given clear, and of a data frame. `passes` becomes
+ * 1 or 0; where the call answers a refusal it stays as it was. */
 uint64_t zinovoky_join_request_mic(const uint8_t *frame, size_t frame_len, const uint8_t *app_key, uint8_t *passes);
 uint64_t zinovoky_join_accept_mic(const uint8_t *frame, size_t frame_len, const uint8_t *app_key, uint8_t *passes);
 uint64_t zinovoky_data_mic(const uint8_t *frame, size_t frame_len, const uint8_t *nwk_skey, uint32_t counter, uint8_t *passes);
 
 /* Decrypts the payload of a data frame where it lies. `keys_given` says which keys are given: 1 the network key, 2 the
- * application key, 3 both. The second call tests the MIC first; it takes the network key as given. */
+ * application key, 3 both (of another number the two low bits count). A key that is not given is still 16 bytes, which
+ * count for nothing. The second call tests the MIC first; it takes the network key as given. */
 uint64_t zinovoky_decrypt_data(uint8_t *frame, size_t frame_len, uint8_t keys_given, const uint8_t *nwk_skey, const uint8_t *app_skey, uint32_t counter);
 uint64_t zinovoky_decrypt_data_checked(uint8_t *frame, size_t frame_len, uint8_t keys_given, const uint8_t *nwk_skey, const uint8_t *app_skey, uint32_t counter);
 
@@ -61,7 +63,8 @@ uint64_t zinovoky_session_keys(const uint8_t *frame, size_t frame_len, const uin
 uint64_t zinovoky_build_join_request(const uint8_t *app_eui, const uint8_t *dev_eui, const uint8_t *dev_nonce, const uint8_t *app_key, uint8_t *out, size_t out_len);
 
 /* Builds a join-accept. `fixed` is AppNonce (3 bytes), NetID (3), DevAddr (4), DLSettings and RxDelay, in frame order: 12
- * bytes. With `with_list` 1 the channels, in units of 100 Hz, follow as a list; with 0 they are not looked at. */
+ * bytes. With `with_list` 1 the channels, in units of 100 Hz, follow as a list; with any other number
+ * they are not looked at. */
 uint64_t zinovoky_build_join_accept(const uint8_t *fixed, uint8_t with_list, const uint32_t *channels, size_t channels_len, const uint8_t *app_key, uint8_t *out, size_t out_len);
 
 /* Builds a data frame. `kind` is the type: 2 unconfirmed up, 3 unconfirmed down, 4 confirmed up, 5 confirmed down (another
