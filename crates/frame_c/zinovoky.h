@@ -63,8 +63,8 @@ uint64_t zinovoky_session_keys(const uint8_t *frame, size_t frame_len, const uin
 uint64_t zinovoky_build_join_request(const uint8_t *app_eui, const uint8_t *dev_eui, const uint8_t *dev_nonce, const uint8_t *app_key, uint8_t *out, size_t out_len);
 
 /* Builds a join-accept. `fixed` is AppNonce (3 bytes), NetID (3), DevAddr (4), DLSettings and RxDelay, in frame order: 12
- * bytes. With `with_list` 1 the channels, in units of 100 Hz, follow as a list; with any other number
- * they are not looked at. */
+ * bytes. With `with_list` 1 the channels, in units of 100 Hz, follow as a list; with any other number they are not looked
+ * at. */
 uint64_t zinovoky_build_join_accept(const uint8_t *fixed, uint8_t with_list, const uint32_t *channels, size_t channels_len, const uint8_t *app_key, uint8_t *out, size_t out_len);
 
 /* Builds a data frame. `kind` is the type: 2 unconfirmed up, 3 unconfirmed down, 4 confirmed up, 5 confirmed down (another

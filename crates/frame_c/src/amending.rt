@@ -12,8 +12,15 @@ pub extern "C" fn zinovoky_amend(
     counter: u32,
     amendments: &[u32],
 ) -> u64
-    ensures { λ r. ⌜ r ≡ outcomeAnswer (amendFrameOf (now (frame .entry)) (now («nwk_skey» .entry)) (now («app_skey» .entry)) counter (now (amendments .entry))) ⌝ }
-    ensures { λ _. ⌜ now (frame .exit) ≡ amendedFrame (now (frame .entry)) (now («nwk_skey» .entry)) (now («app_skey» .entry)) counter (now (amendments .entry)) ⌝ }
+    ensures { λ r.
+        ⌜ r
+        ≡ outcomeAnswer
+        (amendFrameOf (now (frame .entry)) (now («nwk_skey» .entry)) (now («app_skey» .entry)) counter
+        (now (amendments .entry))) ⌝ }
+    ensures { λ _.
+        ⌜ now (frame .exit)
+        ≡ amendedFrame (now (frame .entry)) (now («nwk_skey» .entry)) (now («app_skey» .entry)) counter
+        (now (amendments .entry)) ⌝ }
 {
     let nwk = *nwk_skey;
     let app = *app_skey;

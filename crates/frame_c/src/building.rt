@@ -49,7 +49,8 @@ pub extern "C" fn zinovoky_build_join_request(
 ) -> u64
     ensures { λ r.
         ⌜ Builds (joinRequestRefusal (length (now (out .entry))))
-        (joinRequest (now («app_key» .entry)) (requestParts (now («app_eui» .entry)) (now («dev_eui» .entry)) (now («dev_nonce» .entry))))
+        (joinRequest (now («app_key» .entry))
+        (requestParts (now («app_eui» .entry)) (now («dev_eui» .entry)) (now («dev_nonce» .entry))))
         (now (out .entry)) r (now (out .exit)) ⌝ }
 {
     let app = *app_eui;
@@ -91,7 +92,9 @@ pub extern "C" fn zinovoky_build_join_accept(
     out: &mut [u8],
 ) -> u64
     ensures { λ r.
-        ⌜ Builds (joinAcceptRefusal (acceptParts (now (fixed .entry)) (eqb «with_list» 1)) (now (channels .entry)) (length (now (out .entry))))
+        ⌜ Builds
+        (joinAcceptRefusal (acceptParts (now (fixed .entry)) (eqb «with_list» 1)) (now (channels .entry))
+        (length (now (out .entry))))
         (joinAccept (now («app_key» .entry)) (acceptParts (now (fixed .entry)) (eqb «with_list» 1)) (now (channels .entry)))
         (now (out .entry)) r (now (out .exit)) ⌝ }
 {
@@ -143,8 +146,10 @@ pub extern "C" fn zinovoky_build_data(
 ) -> u64
     ensures { λ r.
         ⌜ Builds
-        (dataRefused kind (dataParts kind (now («dev_addr» .entry)) fctrl counter port) (now (commands .entry)) (now (payload .entry)) (length (now (out .entry))))
-        (dataFrame (now («nwk_skey» .entry)) (now («app_skey» .entry)) (dataParts kind (now («dev_addr» .entry)) fctrl counter port) (now (commands .entry)) (now (payload .entry)))
+        (dataRefused kind (dataParts kind (now («dev_addr» .entry)) fctrl counter port) (now (commands .entry))
+        (now (payload .entry)) (length (now (out .entry))))
+        (dataFrame (now («nwk_skey» .entry)) (now («app_skey» .entry))
+        (dataParts kind (now («dev_addr» .entry)) fctrl counter port) (now (commands .entry)) (now (payload .entry)))
         (now (out .entry)) r (now (out .exit)) ⌝ }
 {
     if kind < 2 {

@@ -1,9 +1,8 @@
 // MIC tests, decryption and session keys.
 ghost use mathlib.Core.Path.{_≡_};
-ghost use mathlib.Core.List.{_++_};
-ghost use lib.ListN.{length};
 ghost use Rattle.secure.specs.Opening.{joinRequestTest, joinAcceptTest, dataTest, dataOpened, dataOpenedChecked, acceptOpened, acceptOpenedChecked, sessionKeys};
-ghost use Rattle.frame_c.specs.Answers.{testAnswer, passesOf, openingAnswer, orShort, Fills};
+ghost use Rattle.frame_c.specs.Answers.{testAnswer, passesOf, openingAnswer};
+ghost use Rattle.frame_c.specs.Fields.{KeysInto};
 ghost use Rattle.frame_c.specs.Given.{nwkGiven, appGiven};
 use crate::answers::answer;
 use crate::answers::opening_answer;
@@ -91,8 +90,15 @@ pub extern "C" fn zinovoky_decrypt_data(
     app_skey: &[u8; 16],
     counter: u32,
 ) -> u64
-    ensures { λ r. ⌜ r ≡ openingAnswer (dataOpened (nwkGiven «keys_given» (now («nwk_skey» .entry))) (appGiven «keys_given» (now («app_skey» .entry))) counter (now (frame .entry)) .answer) ⌝ }
-    ensures { λ _. ⌜ now (frame .exit) ≡ dataOpened (nwkGiven «keys_given» (now («nwk_skey» .entry))) (appGiven «keys_given» (now («app_skey» .entry))) counter (now (frame .entry)) .bytes ⌝ }
+    ensures { λ r.
+        ⌜ r
+        ≡ openingAnswer
+        (dataOpened (nwkGiven «keys_given» (now («nwk_skey» .entry))) (appGiven «keys_given» (now («app_skey» .entry))) counter
+        (now (frame .entry)) .answer) ⌝ }
+    ensures { λ _.
+        ⌜ now (frame .exit)
+        ≡ dataOpened (nwkGiven «keys_given» (now («nwk_skey» .entry))) (appGiven «keys_given» (now («app_skey» .entry))) counter
+        (now (frame .entry)) .bytes ⌝ }
 {
     let nwk_key = *nwk_skey;
     let app_key = *app_skey;
@@ -110,8 +116,15 @@ pub extern "C" fn zinovoky_decrypt_data_checked(
     app_skey: &[u8; 16],
     counter: u32,
 ) -> u64
-    ensures { λ r. ⌜ r ≡ openingAnswer (dataOpenedChecked (now («nwk_skey» .entry)) (appGiven «keys_given» (now («app_skey» .entry))) counter (now (frame .entry)) .answer) ⌝ }
-    ensures { λ _. ⌜ now (frame .exit) ≡ dataOpenedChecked (now («nwk_skey» .entry)) (appGiven «keys_given» (now («app_skey» .entry))) counter (now (frame .entry)) .bytes ⌝ }
+    ensures { λ r.
+        ⌜ r
+        ≡ openingAnswer
+        (dataOpenedChecked (now («nwk_skey» .entry)) (appGiven «keys_given» (now («app_skey» .entry))) counter
+        (now (frame .entry)) .answer) ⌝ }
+    ensures { λ _.
+        ⌜ now (frame .exit)
+        ≡ dataOpenedChecked (now («nwk_skey» .entry)) (appGiven «keys_given» (now («app_skey» .entry))) counter
+        (now (frame .entry)) .bytes ⌝ }
 {
     let nwk_key = *nwk_skey;
     let app_key = *app_skey;
@@ -150,10 +163,8 @@ pub extern "C" fn zinovoky_session_keys(
     keys: &mut [u8],
 ) -> u64
     ensures { λ r.
-        ⌜ Fills (orShort ((sessionKeys (now («app_key» .entry)) (now («dev_nonce» .entry)) (now (frame .entry))) .number) 32 (length (now (keys .entry))))
-        ((sessionKeys (now («app_key» .entry)) (now («dev_nonce» .entry)) (now (frame .entry))) .place)
-        ((sessionKeys (now («app_key» .entry)) (now («dev_nonce» .entry)) (now (frame .entry))) .«nwk_skey» ++ (sessionKeys (now («app_key» .entry)) (now («dev_nonce» .entry)) (now (frame .entry))) .«app_skey»)
-        (now (keys .entry)) r (now (keys .exit)) ⌝ }
+        ⌜ KeysInto (sessionKeys (now («app_key» .entry)) (now («dev_nonce» .entry)) (now (frame .entry))) (now (keys .entry)) r
+        (now (keys .exit)) ⌝ }
 {
     let nonce = *dev_nonce;
     let key = *app_key;

@@ -1,12 +1,8 @@
 // Reading.
 ghost use mathlib.Core.Path.{_≡_};
 ghost use Prim.Native.Nat.{_-_};
-ghost use lib.ListN.{length};
-ghost use Rattle.base.specs.Bytes.{pick, at};
-ghost use Rattle.frame.specs.Numbers.{numberOf, placeOf, valuesOf};
-ghost use Rattle.frame.specs.Reading.{readOf};
-ghost use Rattle.frame_c.specs.Answers.{orShort, Fills};
-ghost use Rattle.frame_c.specs.Fields.{fieldsOf};
+ghost use Rattle.base.specs.Bytes.{pick};
+ghost use Rattle.frame_c.specs.Fields.{fieldsOf, ReadInto};
 use crate::answers::answer;
 use crate::storing::or_short;
 use crate::storing::put;
@@ -64,11 +60,7 @@ fn field_bytes(first: u8, length: usize, v: Values) -> [u8; 12]
 
 #[no_mangle]
 pub extern "C" fn zinovoky_read(frame: &[u8], fields: &mut [u8]) -> u64
-    ensures { λ r.
-        ⌜ Fills (orShort (numberOf (readOf (now (frame .entry)))) 12 (length (now (fields .entry))))
-        (placeOf (readOf (now (frame .entry))))
-        (fieldsOf (at (now (frame .entry)) 0) (length (now (frame .entry))) (valuesOf (readOf (now (frame .entry)))))
-        (now (fields .entry)) r (now (fields .exit)) ⌝ }
+    ensures { λ r. ⌜ ReadInto (now (frame .entry)) (now (fields .entry)) r (now (fields .exit)) ⌝ }
 {
     let reading = read(frame);
     let place = place_of(reading);
