@@ -1,0 +1,46 @@
+-- A building's promise, with its answer as a number; and the kinds of data frame, of which any other number is refused
+-- before anything is built.
+-- Assumes nothing.
+use mathlib.Core.Path.{_≡_, refl, sym, ap, _∙_}
+use mathlib.Core.List.{List}
+use Prim.Native.Nat.{ℕ, _<_, _≤_}
+use lib.ListN.{length}
+use borrow.Author.Tests.{lt-ltb, le-ltb}
+use Rattle.build.specs.Building.{dataRefusal}
+use Rattle.build.specs.Frames.{builtOf, outOf, Builds as BuildsFrame}
+use Rattle.build.specs.declared.creator.Built.{Built}
+use Rattle.build.specs.declared.creator.DataParts.{DataParts}
+use Rattle.frame_c.specs.Answers.{answerOf, builtAnswer, Builds}
+use Rattle.frame_c.specs.Given.{dataRefused}
+
+-- what was built of equal parts
+pub made : {n m : ℕ} {f g l e : List ℕ} {b : Built} {r : ℕ} → BuildsFrame n f l b e → n ≡ m → f ≡ g → r ≡ builtAnswer b
+    → Builds m g l r e
+made {n} {m} {f} {g} {l} {e} {b} {r} p q s a =
+    record {
+      answer =
+          a ∙ ap builtAnswer (p .answer) ∙ ap (λ (k : ℕ). builtAnswer (builtOf k (length f))) q
+          ∙ ap (λ (h : List ℕ). builtAnswer (builtOf m (length h))) s;
+      output = p .output ∙ ap (λ (k : ℕ). outOf k f l) q ∙ ap (λ (h : List ℕ). outOf m h l) s;
+    }
+
+-- a refusal by 3, which changes nothing
+pub refused-kind : {n : ℕ} {f l : List ℕ} {r : ℕ} → n ≡ 3 → r ≡ answerOf 3 0 → Builds n f l r l
+refused-kind {n} {f} {l} {r} q a =
+    record {
+      answer = a ∙ ap (λ (k : ℕ). builtAnswer (builtOf k (length f))) (sym q);
+      output = ap (λ (k : ℕ). outOf k f l) (sym q);
+    }
+
+pub below-data : (k : ℕ) (d : DataParts) (cs p : List ℕ) (n : ℕ) → k < 2 → dataRefused k d cs p n ≡ 3
+unfolding dataRefused
+below-data k d cs p n h = simp (lt-ltb _ _ h)
+
+pub above-data : (k : ℕ) (d : DataParts) (cs p : List ℕ) (n : ℕ) → 2 ≤ k → 5 < k → dataRefused k d cs p n ≡ 3
+unfolding dataRefused
+above-data k d cs p n l h = simp (le-ltb _ _ l, lt-ltb _ _ h)
+
+pub of-data : (k : ℕ) (d : DataParts) (cs p : List ℕ) (n : ℕ) → 2 ≤ k → k ≤ 5
+    → dataRefused k d cs p n ≡ dataRefusal d cs p n
+unfolding dataRefused
+of-data k d cs p n l h = simp (le-ltb _ _ l, le-ltb _ _ h)

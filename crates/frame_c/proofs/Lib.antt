@@ -1,0 +1,4 @@
+mod Buildings
+pub mod Determined
+mod Fillings
+mod Opened

@@ -1,0 +1,15 @@
+-- `zinovoky_amend` answers what `amend_frame` does, and leaves the frame so.
+-- Assumes nothing.
+use borrow.Author.Needs.{needs}
+use mathlib.Core.Path.{ap, _∙_}
+use Rattle.frame_c.specs.Answers.{outcomeAnswer}
+use Rattle.frame_c.proofs.amending.zinovoky_amend.Statement.{statement}
+use Rattle.frame_c.proofs.amending.zinovoky_amend.Tie as tie
+
+returns : tie.Need-returns
+returns c =
+    let done = c .before .before .before .amend-frame .ensures in
+    (c .answer .ensures ∙ ap outcomeAnswer (done .0), done .1)
+
+pub zinovoky-amend-spec : {M : Type 1} → statement M
+zinovoky-amend-spec = tie.close (tie.spec (λ c κs. search needs) (λ c κs. search needs) (λ c. search needs) returns)

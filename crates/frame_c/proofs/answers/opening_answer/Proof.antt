@@ -1,0 +1,11 @@
+-- `opening_answer` joins the number and the place.
+-- Assumes nothing.
+use borrow.Author.Needs.{needs}
+use Rattle.frame_c.proofs.answers.opening_answer.Statement.{statement}
+use Rattle.frame_c.proofs.answers.opening_answer.Tie as tie
+
+returns : tie.Need-returns
+returns c = cc
+
+pub opening-answer-spec : {M : Type 1} → statement M
+opening-answer-spec = tie.close (tie.spec (λ c κs. search needs) (λ c κs. search needs) (λ c κs. search needs) returns)

@@ -1,0 +1,11 @@
+-- `built_answer` joins the number and the value.
+-- Assumes nothing.
+use borrow.Author.Needs.{needs}
+use Rattle.frame_c.proofs.building.built_answer.Statement.{statement}
+use Rattle.frame_c.proofs.building.built_answer.Tie as tie
+
+returns : tie.Need-returns
+returns c = cc
+
+pub built-answer-spec : {M : Type 1} → statement M
+built-answer-spec = tie.close (tie.spec (λ c κs. search needs) (λ c κs. search needs) (λ c κs. search needs) returns)

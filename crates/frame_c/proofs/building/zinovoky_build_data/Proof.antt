@@ -1,0 +1,31 @@
+-- `zinovoky_build_data` refuses a kind that is none, and else answers what `build_data` does, of the parts given.
+-- Assumes nothing.
+use borrow.Author.Needs.{needs}
+use mathlib.Core.Path.{ap, sym, _∙_}
+use denote.Ref.{now}
+use lib.ListN.{length}
+use Rattle.build.specs.Building.{dataRefusal}
+use Rattle.build.specs.Frames.{dataFrame}
+use Rattle.build.specs.declared.creator.DataParts.{DataParts}
+use Rattle.frame_c.proofs.Buildings.{made, refused-kind, below-data, above-data, of-data}
+use Rattle.frame_c.proofs.building.zinovoky_build_data.Statement.{statement}
+use Rattle.frame_c.proofs.building.zinovoky_build_data.Tie as tie
+
+returns : tie.Need-returns
+returns c = refused-kind (below-data _ _ _ _ _ (c .before .if1 .taken)) (c .answer .ensures)
+
+returns-2 : tie.Need-returns-2
+returns-2 c = refused-kind (above-data _ _ _ _ _ (c .before .before .if1 .left) (c .before .if2 .taken)) (c .answer2 .ensures)
+
+returns-3 : tie.Need-returns-3
+returns-3 c =
+    let a = c .before .before .before .before .before .before .before .before .before .before .before .before .before .before .args in
+    let parts = c .before .before .before .before .before .data-parts .ensures in
+    made (c .before .before .before .build-data .ensures)
+    (ap (λ (d : DataParts). dataRefusal d (now (a .commands)) (now (a .payload)) (length (now (a .out)))) parts
+    ∙ sym (of-data _ _ _ _ _ (c .before .before .before .before .before .before .before .before .before .before .if1 .left) (c .before .before .before .before .before .before .before .before .before .if2 .left)))
+    (ap (λ (d : DataParts). dataFrame (now (a .nwk-skey)) (now (a .app-skey)) d (now (a .commands)) (now (a .payload))) parts)
+    (c .built-answer .ensures)
+
+pub zinovoky-build-data-spec : {M : Type 1} → statement M
+zinovoky-build-data-spec = tie.close (tie.spec (λ c κs. search needs) returns (λ c κs. search needs) returns-2 (λ c κs. search needs) (λ c κs. search needs) (λ c κs. search needs) (λ c. search needs) returns-3)

@@ -1,0 +1,8 @@
+// The codec for C and for whatever calls C: functions on numbers and byte slices, as `zinovoky.h` declares them. Each calls
+// the function that does the work and turns its answer into one number.
+mod amending;
+mod answers;
+mod building;
+mod opening;
+mod reading;
+mod storing;

@@ -1,0 +1,182 @@
+// MIC tests, decryption and session keys.
+ghost use mathlib.Core.Path.{_≡_};
+ghost use Rattle.secure.specs.Opening.{joinRequestTest, joinAcceptTest, dataTest, dataOpened, dataOpenedChecked, acceptOpened, acceptOpenedChecked, sessionKeys};
+ghost use Rattle.frame_c.specs.Answers.{testAnswer, passesOf, openingAnswer};
+ghost use Rattle.frame_c.specs.Fields.{KeysInto};
+ghost use Rattle.frame_c.specs.Given.{nwkGiven, appGiven};
+use crate::answers::answer;
+use crate::answers::opening_answer;
+use crate::answers::passes_of;
+use crate::answers::test_answer;
+use crate::storing::or_short;
+use crate::storing::put;
+use frame::keys::MaybeKey;
+
+#[no_mangle]
+pub extern "C" fn zinovoky_join_request_mic(
+    frame: &[u8],
+    app_key: &[u8; 16],
+    passes: &mut u8,
+) -> u64
+    ensures { λ r. ⌜ r ≡ testAnswer (joinRequestTest (now («app_key» .entry)) (now (frame .entry))) ⌝ }
+    ensures { λ _.
+        ⌜ now (passes .exit)
+        ≡ passesOf (joinRequestTest (now («app_key» .entry)) (now (frame .entry))) (now (passes .entry)) ⌝ }
+{
+    let key = *app_key;
+    let test = secure::payload::join_request_mic(frame, key);
+    let was = *passes;
+    *passes = passes_of(test, was);
+    test_answer(test)
+}
+
+#[no_mangle]
+pub extern "C" fn zinovoky_join_accept_mic(frame: &[u8], app_key: &[u8; 16], passes: &mut u8) -> u64
+    ensures { λ r. ⌜ r ≡ testAnswer (joinAcceptTest (now («app_key» .entry)) (now (frame .entry))) ⌝ }
+    ensures { λ _.
+        ⌜ now (passes .exit)
+        ≡ passesOf (joinAcceptTest (now («app_key» .entry)) (now (frame .entry))) (now (passes .entry)) ⌝ }
+{
+    let key = *app_key;
+    let test = secure::payload::join_accept_mic(frame, key);
+    let was = *passes;
+    *passes = passes_of(test, was);
+    test_answer(test)
+}
+
+#[no_mangle]
+pub extern "C" fn zinovoky_data_mic(
+    frame: &[u8],
+    nwk_skey: &[u8; 16],
+    counter: u32,
+    passes: &mut u8,
+) -> u64
+    ensures { λ r. ⌜ r ≡ testAnswer (dataTest (now («nwk_skey» .entry)) counter (now (frame .entry))) ⌝ }
+    ensures { λ _.
+        ⌜ now (passes .exit)
+        ≡ passesOf (dataTest (now («nwk_skey» .entry)) counter (now (frame .entry))) (now (passes .entry)) ⌝ }
+{
+    let key = *nwk_skey;
+    let test = secure::payload::data_mic(frame, key, counter);
+    let was = *passes;
+    *passes = passes_of(test, was);
+    test_answer(test)
+}
+
+// The network key, and the application key, by whether they are given.
+fn nwk_given(keys: u8, key: [u8; 16]) -> MaybeKey
+    ensures { λ r. ⌜ r ≡ nwkGiven keys key ⌝ }
+{
+    MaybeKey {
+        given: keys % 2 == 1,
+        key,
+    }
+}
+
+fn app_given(keys: u8, key: [u8; 16]) -> MaybeKey
+    ensures { λ r. ⌜ r ≡ appGiven keys key ⌝ }
+{
+    MaybeKey {
+        given: keys / 2 % 2 == 1,
+        key,
+    }
+}
+
+#[no_mangle]
+pub extern "C" fn zinovoky_decrypt_data(
+    frame: &mut [u8],
+    keys_given: u8,
+    nwk_skey: &[u8; 16],
+    app_skey: &[u8; 16],
+    counter: u32,
+) -> u64
+    ensures { λ r.
+        ⌜ r
+        ≡ openingAnswer
+        (dataOpened (nwkGiven «keys_given» (now («nwk_skey» .entry))) (appGiven «keys_given» (now («app_skey» .entry))) counter
+        (now (frame .entry)) .answer) ⌝ }
+    ensures { λ _.
+        ⌜ now (frame .exit)
+        ≡ dataOpened (nwkGiven «keys_given» (now («nwk_skey» .entry))) (appGiven «keys_given» (now («app_skey» .entry))) counter
+        (now (frame .entry)) .bytes ⌝ }
+{
+    let nwk_key = *nwk_skey;
+    let app_key = *app_skey;
+    let nwk = nwk_given(keys_given, nwk_key);
+    let app = app_given(keys_given, app_key);
+    let opening = secure::payload::decrypt_data(frame, nwk, app, counter);
+    opening_answer(opening)
+}
+
+#[no_mangle]
+pub extern "C" fn zinovoky_decrypt_data_checked(
+    frame: &mut [u8],
+    keys_given: u8,
+    nwk_skey: &[u8; 16],
+    app_skey: &[u8; 16],
+    counter: u32,
+) -> u64
+    ensures { λ r.
+        ⌜ r
+        ≡ openingAnswer
+        (dataOpenedChecked (now («nwk_skey» .entry)) (appGiven «keys_given» (now («app_skey» .entry))) counter
+        (now (frame .entry)) .answer) ⌝ }
+    ensures { λ _.
+        ⌜ now (frame .exit)
+        ≡ dataOpenedChecked (now («nwk_skey» .entry)) (appGiven «keys_given» (now («app_skey» .entry))) counter
+        (now (frame .entry)) .bytes ⌝ }
+{
+    let nwk_key = *nwk_skey;
+    let app_key = *app_skey;
+    let app = app_given(keys_given, app_key);
+    let opening = secure::default_crypto::decrypt_data_checked(frame, nwk_key, app, counter);
+    opening_answer(opening)
+}
+
+#[no_mangle]
+pub extern "C" fn zinovoky_decrypt_join_accept(frame: &mut [u8], app_key: &[u8; 16]) -> u64
+    ensures { λ r. ⌜ r ≡ openingAnswer (acceptOpened (now («app_key» .entry)) (now (frame .entry)) .answer) ⌝ }
+    ensures { λ _. ⌜ now (frame .exit) ≡ acceptOpened (now («app_key» .entry)) (now (frame .entry)) .bytes ⌝ }
+{
+    let key = *app_key;
+    let opening = secure::payload::decrypt_join_accept(frame, key);
+    opening_answer(opening)
+}
+
+#[no_mangle]
+pub extern "C" fn zinovoky_decrypt_join_accept_checked(frame: &mut [u8], app_key: &[u8; 16]) -> u64
+    ensures { λ r. ⌜ r ≡ openingAnswer (acceptOpenedChecked (now («app_key» .entry)) (now (frame .entry)) .answer) ⌝ }
+    ensures { λ _. ⌜ now (frame .exit) ≡ acceptOpenedChecked (now («app_key» .entry)) (now (frame .entry)) .bytes ⌝ }
+{
+    let key = *app_key;
+    let opening = secure::default_crypto::decrypt_join_accept_checked(frame, key);
+    opening_answer(opening)
+}
+
+pub(crate) const KEYS_LEN: usize = 32;
+
+#[no_mangle]
+pub extern "C" fn zinovoky_session_keys(
+    frame: &[u8],
+    dev_nonce: &[u8; 2],
+    app_key: &[u8; 16],
+    keys: &mut [u8],
+) -> u64
+    ensures { λ r.
+        ⌜ KeysInto (sessionKeys (now («app_key» .entry)) (now («dev_nonce» .entry)) (now (frame .entry))) (now (keys .entry)) r
+        (now (keys .exit)) ⌝ }
+{
+    let nonce = *dev_nonce;
+    let key = *app_key;
+    let session = secure::payload::session_keys(frame, nonce, key);
+    let place = session.place;
+    let refusal = or_short(session.number, KEYS_LEN, keys.len());
+    if refusal != 0 {
+        return answer(refusal, place);
+    }
+    let nwk_skey = session.nwk_skey;
+    let app_skey = session.app_skey;
+    let end = put(keys, 0, &nwk_skey);
+    put(keys, end, &app_skey);
+    answer(0, place)
+}

@@ -1,0 +1,82 @@
+/* Zinovoky: a proved LoRaWAN 1.0 frame codec, for C and for whatever calls C.
+ *
+ * A slice is a pointer and a length; a key is 16 bytes. Pointers must not be null and buffers must not overlap.
+ *
+ * Unless it says otherwise, a call answers a number whose low byte is 0 where it succeeded, and else a refusal:
+ *
+ *    1 InvalidPayload            fewer than 12 bytes
+ *    2 UnsupportedMajorVersion   the low two bits of byte 0 are not 00
+ *    3 InvalidMessageType        type 6 or 7
+ *    4 InvalidData               a length that is wrong for the type, or a frame of another type than the call needs
+ *    5 InvalidMic                the MIC differs
+ *    6 InvalidKey                the key that the port selects was not given
+ *    7 BufferTooShort            no room for the answer
+ *    8 InvalidChannelList        over five channels, or one above 16,777,215
+ *    9 MacCommandTooBigForFOpts  commands over 15 bytes and the port absent or not 0
+ *   10 DataAndMacCommandsInPayloadNotAllowed   port 0 and a payload that is not empty
+ *   11 FRMPayloadWithFportZero   no port and a payload that is not empty
+ *   12 FrameTooLong              over 255 bytes
+ *   13 FOptsLenSet               FCtrl with a low nibble that is not 0
+ *   14 CounterMismatch           the low half of the counter differs from the frame's FCnt
+ *   15 OffsetOutside             an offset at or past the payload's length
+ *
+ * The bytes above the low one hold the place of a refusal (0 in this version), or of a building the frame's length.
+ * A refusal changes no byte that was lent.
+ */
+#ifndef ZINOVOKY_H
+#define ZINOVOKY_H
+
+#include <stddef.h>
+#include <stdint.h>
+
+#ifdef __cplusplus
+extern "C" {
+#endif
+
+/* Reads a frame. `fields` must have room for 12 bytes (7, after the reader's own refusals) and receives: the type (0 to
+ * 5), FCtrl, FCnt low and high, the place past FOpts, whether a port is reported (0 or 1), the port, the payload's kind
+ * (0 none, 1 data, 2 commands), the place of its first byte and the place past its last, the place of the MIC, and the
+ * frame's length. Of a join message all but the type, the place of the MIC and the length are 0. */
+uint64_t zinovoky_read(const uint8_t *frame, size_t frame_len, uint8_t *fields, size_t fields_len);
+
+/* Tests the MIC of a join-request, of a join-accept that is given clear, and of a data frame. `passes` becomes
+ * 1 or 0; where the call answers a refusal it stays as it was. */
+uint64_t zinovoky_join_request_mic(const uint8_t *frame, size_t frame_len, const uint8_t *app_key, uint8_t *passes);
+uint64_t zinovoky_join_accept_mic(const uint8_t *frame, size_t frame_len, const uint8_t *app_key, uint8_t *passes);
+uint64_t zinovoky_data_mic(const uint8_t *frame, size_t frame_len, const uint8_t *nwk_skey, uint32_t counter, uint8_t *passes);
+
+/* Decrypts the payload of a data frame where it lies. `keys_given` says which keys are given: 1 the network key, 2 the
+ * application key, 3 both (of another number the two low bits count). A key that is not given is still 16 bytes, which
+ * count for nothing. The second call tests the MIC first; it takes the network key as given. */
+uint64_t zinovoky_decrypt_data(uint8_t *frame, size_t frame_len, uint8_t keys_given, const uint8_t *nwk_skey, const uint8_t *app_skey, uint32_t counter);
+uint64_t zinovoky_decrypt_data_checked(uint8_t *frame, size_t frame_len, uint8_t keys_given, const uint8_t *nwk_skey, const uint8_t *app_skey, uint32_t counter);
+
+/* Decrypts a join-accept where it lies. The second call leaves it as it is where the MIC of the clear text differs. */
+uint64_t zinovoky_decrypt_join_accept(uint8_t *frame, size_t frame_len, const uint8_t *app_key);
+uint64_t zinovoky_decrypt_join_accept_checked(uint8_t *frame, size_t frame_len, const uint8_t *app_key);
+
+/* Session keys from a clear join-accept and the device's nonce (in frame order): 16 bytes of network key, then 16 bytes of
+ * application key into `keys`, which must have room for 32 (7, after the reader's own refusals). */
+uint64_t zinovoky_session_keys(const uint8_t *frame, size_t frame_len, const uint8_t *dev_nonce, const uint8_t *app_key, uint8_t *keys, size_t keys_len);
+
+/* Builds a join-request: AppEUI and DevEUI of 8 bytes, DevNonce of 2, in frame order. */
+uint64_t zinovoky_build_join_request(const uint8_t *app_eui, const uint8_t *dev_eui, const uint8_t *dev_nonce, const uint8_t *app_key, uint8_t *out, size_t out_len);
+
+/* Builds a join-accept. `fixed` is AppNonce (3 bytes), NetID (3), DevAddr (4), DLSettings and RxDelay, in frame order: 12
+ * bytes. With `with_list` 1 the channels, in units of 100 Hz, follow as a list; with any other number they are not looked
+ * at. */
+uint64_t zinovoky_build_join_accept(const uint8_t *fixed, uint8_t with_list, const uint32_t *channels, size_t channels_len, const uint8_t *app_key, uint8_t *out, size_t out_len);
+
+/* Builds a data frame. `kind` is the type: 2 unconfirmed up, 3 unconfirmed down, 4 confirmed up, 5 confirmed down (another
+ * number answers 3). `port` is 0 to 255, and a number above 255 says that there is no port. */
+uint64_t zinovoky_build_data(uint8_t kind, const uint8_t *dev_addr, uint8_t fctrl, uint32_t counter, uint16_t port, const uint8_t *commands, size_t commands_len, const uint8_t *payload, size_t payload_len, const uint8_t *nwk_skey, const uint8_t *app_skey, uint8_t *out, size_t out_len);
+
+/* Amends payload bytes of a data frame where it lies. Each amendment is offset * 256 + value, the value clear. The first
+ * refusal of the opening or of an amendment is answered, and then no byte is changed. */
+uint64_t zinovoky_amend(uint8_t *frame, size_t frame_len, const uint8_t *nwk_skey, const uint8_t *app_skey, uint32_t counter, const uint32_t *amendments, size_t amendments_len);
+
+#ifdef __cplusplus
+}
+#endif
+
+#endif
