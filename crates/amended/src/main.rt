@@ -4,6 +4,7 @@
 // nothing but to be safe and to end: what comes out is compared.
 ghost use Prim.Native.Nat.{_≤_};
 use amend::Open;
+use libc::STDERR_FILENO;
 use libc::STDIN_FILENO;
 use libc::STDOUT_FILENO;
 use std::num::wrapping_add_usize;
@@ -167,5 +168,7 @@ fn replay_all() -> u64 {
 
 fn main() {
     io::print_decimal(STDOUT_FILENO, replay_all());
-    io::write_all(STDOUT_FILENO, b" cases\n");
+    if !io::write_all(STDOUT_FILENO, b" cases\n") {
+        io::write_all(STDERR_FILENO, b"amended: the output could not be written\n");
+    }
 }

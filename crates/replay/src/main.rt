@@ -3,6 +3,7 @@
 // has the formats; tools/oracle/record.py lays them beside this program. It promises nothing but to be safe and to end:
 // what comes out is compared.
 use crate::input::ROOM;
+use libc::STDERR_FILENO;
 use libc::STDIN_FILENO;
 use libc::STDOUT_FILENO;
 
@@ -54,5 +55,7 @@ fn replay_all() -> u64 {
 
 fn main() {
     io::print_decimal(STDOUT_FILENO, replay_all());
-    io::write_all(STDOUT_FILENO, b" cases\n");
+    if !io::write_all(STDOUT_FILENO, b" cases\n") {
+        io::write_all(STDERR_FILENO, b"replay: the output could not be written\n");
+    }
 }

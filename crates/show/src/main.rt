@@ -1,4 +1,5 @@
 // Reads one frame as raw bytes from standard input and writes its text to standard output (document 01, "Examples").
+use libc::STDERR_FILENO;
 use libc::STDIN_FILENO;
 use libc::STDOUT_FILENO;
 use text::TEXT_ROOM;
@@ -9,5 +10,7 @@ fn main() {
     let n = io::read_full(STDIN_FILENO, &mut frame);
     let mut out = [0u8; TEXT_ROOM];
     let length = text::describe(&frame[..n], &mut out);
-    io::write_all(STDOUT_FILENO, &out[..length]);
+    if !io::write_all(STDOUT_FILENO, &out[..length]) {
+        io::write_all(STDERR_FILENO, b"show: the output could not be written\n");
+    }
 }

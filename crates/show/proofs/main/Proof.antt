@@ -25,4 +25,8 @@ main-spec =
     array-share-prefix-out
     slice-aggregate-write-all
     (λ c κs. search needs)
+    -- said where it could not be written
+    (λ c. search needs)
+    (λ c κs. search needs)
+    (λ c. search needs)
     (λ c. search needs))
