@@ -3,9 +3,8 @@ ghost use mathlib.Core.Path.{_≡_};
 ghost use Prim.Native.Nat.{_+_, _<_};
 ghost use lib.ListN.{length, take};
 ghost use Rattle.base.specs.Bytes.{tab, at};
-ghost use Rattle.aes.specs.Field.{sub};
-ghost use Rattle.aes.specs.Fips197.{sBox, temp, nextWord, keyExpansion};
-use crate::substitution;
+ghost use Rattle.field.specs.Field.{sub, sBox};
+ghost use Rattle.aes.specs.Fips197.{temp, nextWord, keyExpansion};
 
 // The round constants, from round 1 on: x^0, x^1, ..
 const RCON: [u8; 10] = [0x01, 0x02, 0x04, 0x08, 0x10, 0x20, 0x40, 0x80, 0x1b, 0x36];
@@ -61,7 +60,7 @@ fn begun(key: [u8; 16]) -> [u8; 176]
 pub(crate) fn expanded(key: [u8; 16]) -> [u8; 176]
     ensures { λ r. ⌜ r ≡ keyExpansion key ⌝ }
 {
-    let table = substitution::table();
+    let table = field::substitution::table();
     let mut w = begun(key);
     let mut n = 0;
     while n < 40 {
