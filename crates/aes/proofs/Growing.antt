@@ -15,7 +15,7 @@ use lib.Seq.{sets, sets-eq, length-sets, take-at, getD-take, length-take-le, tak
 use Rattle.base.specs.Bytes.{pick, tab, at, _⊕_}
 use Rattle.base.proofs.Tab.{tab-at, tab-ext}
 use Rattle.base.proofs.Tested.{agree}
-use Rattle.aes.specs.Field.{xtime, sub}
+use Rattle.field.specs.Field.{xtime, sub}
 use Rattle.aes.specs.Fips197.{word, xorWord, rotWord, subWord, powerOfX, rcon, temp, nextWord, withNext, words, keyExpansion}
 
 -- ---- the next word
@@ -32,17 +32,18 @@ same-four : (a b c d p q r s : ℕ) → a ≡ p → b ≡ q → c ≡ r → d �
 same-four a b c d p q r s ha hb hc hd = cc
 
 -- every fourth word
-pub temp-turned : (q : List ℕ) (n : ℕ) → n < 40 → n % 4 ≡ 0
-    → (sub (at q 1) ⊕ at rcons (n / 4)) ∷ sub (at q 2) ∷ sub (at q 3) ∷ sub (at q 0) ∷ [] ≡ temp q (n + 4)
-temp-turned q n k e =
+pub temp-turned : (q : List ℕ) (n : ℕ) {a b c d : ℕ} → n < 40 → n % 4 ≡ 0
+    → a ≡ sub (at q 1) → b ≡ sub (at q 2) → c ≡ sub (at q 3) → d ≡ sub (at q 0)
+    → (a ⊕ at rcons (n / 4)) ∷ b ∷ c ∷ d ∷ [] ≡ temp q (n + 4)
+temp-turned q n k e ea eb ec ed =
     let i : ℕ = n + 4 in
     let turn : eqb (i % 4) 0 ≡ true = eq-eqb (i % 4) 0 (omega arith) in
     let which : n / 4 ≡ i / 4 - 1 = omega arith in
     same-four _ _ _ _ _ _ _ _
-    (ap (λ (c : ℕ). sub (at q 1) ⊕ c) (rcons-right (n / 4) (omega arith) ∙ ap powerOfX which))
-    (sym (xor-zero-r (sub (at q 2))))
-    (sym (xor-zero-r (sub (at q 3))))
-    (sym (xor-zero-r (sub (at q 0))))
+    (ap₂ (λ (x y : ℕ). x ⊕ y) ea (rcons-right (n / 4) (omega arith) ∙ ap powerOfX which))
+    (eb ∙ sym (xor-zero-r (sub (at q 2))))
+    (ec ∙ sym (xor-zero-r (sub (at q 3))))
+    (ed ∙ sym (xor-zero-r (sub (at q 0))))
     ∙ ap (λ (t : Bool). pick t (xorWord (subWord (rotWord q)) (rcon (i / 4))) q) (sym turn)
 
 -- the others
@@ -82,23 +83,13 @@ take-stores w t m h =
 word-take : (w : List ℕ) (m i : ℕ) → 4 * i + 4 ≤ m → word (take m w) i ≡ word w i
 word-take w m i h = tab-ext 4 (λ j. at (take m w) (4 * i + j)) (λ j. at w (4 * i + j)) (λ j k. getD-take m w (4 * i + j) 0 (omega arith))
 
--- the two words that the next one is made of, as the code reads them
-word-low : (w : List ℕ) (n : ℕ) → at w (4 * n) ∷ at w (4 * n + 1) ∷ at w (4 * n + 2) ∷ at w (4 * n + 3) ∷ [] ≡ word w n
-word-low w n =
+-- a word, as the code reads it
+pub word-read : (w : List ℕ) (n : ℕ) → at w (4 * n) ∷ at w (4 * n + 1) ∷ at w (4 * n + 2) ∷ at w (4 * n + 3) ∷ [] ≡ word w n
+word-read w n =
     let zeroth : 4 * n ≡ 4 * n + 0 = omega arith in
     same-four _ _ _ _ _ _ _ _ (ap (at w) zeroth) refl refl refl
 
-word-high : (w : List ℕ) (n : ℕ)
-    → at w (4 * n + 12) ∷ at w (4 * n + 13) ∷ at w (4 * n + 14) ∷ at w (4 * n + 15) ∷ [] ≡ word w (n + 3)
-word-high w n =
-    let place : (j : ℕ) → 4 * n + (12 + j) ≡ 4 * (n + 3) + j = λ j. omega arith in
-    same-four _ _ _ _ _ _ _ _ (ap (at w) (place 0)) (ap (at w) (place 1)) (ap (at w) (place 2)) (ap (at w) (place 3))
-
-pub more : {key w : List ℕ} {n : ℕ} (t : List ℕ) → Growing key w n → n < 40
-    → t
-    ≡ nextWord (at w (4 * n) ∷ at w (4 * n + 1) ∷ at w (4 * n + 2) ∷ at w (4 * n + 3) ∷ [])
-    (at w (4 * n + 12) ∷ at w (4 * n + 13) ∷ at w (4 * n + 14) ∷ at w (4 * n + 15) ∷ [])
-    (n + 4)
+pub more : {key w : List ℕ} {n : ℕ} (t : List ℕ) → Growing key w n → n < 40 → t ≡ nextWord (word w n) (word w (n + 3)) (n + 4)
     → Growing key
     (set
     (set (set (set w (16 + 4 * n) (at t 0)) (16 + 4 * n + 1) (at t 1)) (16 + 4 * n + 2) (at t 2))
@@ -106,10 +97,8 @@ pub more : {key w : List ℕ} {n : ℕ} (t : List ℕ) → Growing key w n → n
     (at t 3))
     (n + 1)
 unfolding words nextWord
-more {key} {w} {n} t g k e′ =
-    let l : length t ≡ 4 = ap length e′ in
-    let e : t ≡ nextWord (word w n) (word w (n + 3)) (n + 4) =
-    e′ ∙ ap₂ (λ (p q : List ℕ). nextWord p q (n + 4)) (word-low w n) (word-high w n) in
+more {key} {w} {n} t g k e =
+    let l : length t ≡ 4 = ap length e in
     let m : ℕ = 16 + 4 * n in
     let stored : List ℕ = sets w m (at t 0 ∷ at t 1 ∷ at t 2 ∷ at t 3 ∷ []) in
     let same : set (set (set (set w m (at t 0)) (m + 1) (at t 1)) (m + 2) (at t 2)) (m + 3) (at t 3) ≡ stored =

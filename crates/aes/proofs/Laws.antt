@@ -11,11 +11,11 @@ use Rattle.base.specs.Bytes.{at, _⊕_, AreBytes}
 use Rattle.base.proofs.AllBytes.{pick-bytes, tab-bytes}
 use Rattle.base.proofs.Parts.{bytes-append}
 use Rattle.base.proofs.Xor.{xor-byte}
-use Rattle.aes.specs.Field.{sub}
+use Rattle.field.specs.Field.{sub}
 use Rattle.aes.specs.Fips197.{word, xorWord, rotWord, subWord, powerOfX, rcon, temp}
 use Rattle.aes.specs.Fips197.{subBytes, shiftRows, mixColumns, addRoundKey, nextWord, words, keyExpansion, round, rounds, cipher}
 use Rattle.aes.specs.Fips197.{invSubBytes, invShiftRows, invMixColumns, invRound, invRounds, invCipher}
-use Rattle.aes.proofs.FieldLaws.{xtime-byte, sub-byte}
+use Rattle.field.proofs.FieldLaws.{xtime-byte, sub-byte}
 use Rattle.aes.proofs.Undone.{Block}
 use Rattle.aes.proofs.Undone as steps
 

@@ -1,10 +1,8 @@
 pub mod Column
 pub mod Determined
-pub mod Examples
-pub mod FieldLaws
 pub mod Growing
 pub mod Laws
 pub mod Linear
+pub mod Lookup
 pub mod Rounds
-pub mod Tables
 pub mod Undone

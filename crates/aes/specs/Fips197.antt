@@ -5,13 +5,9 @@ use mathlib.Core.List.{List, [], _∷_, _++_}
 use Prim.Native.Nat.{ℕ, zero, suc, _+_, _-_, _*_, _/_, _%_}
 use lib.Dec.{eqb}
 use Rattle.base.specs.Bytes.{pick, tab, at, _⊕_}
-use Rattle.aes.specs.Field.{xtime, mul, sub, invSub}
+use Rattle.field.specs.Field.{xtime, mul, sub, invSub}
 
 -- ---- 5.1: the four steps of a round
-
--- 5.1.1, Table 4: the S-box written out
-unfoldable pub sBox : List ℕ
-sBox = tab 256 sub
 
 -- what the table t holds at each byte of a state
 unfoldable pub looked : List ℕ → List ℕ → List ℕ
@@ -118,10 +114,6 @@ shiftedBackFrom i = i % 4 + 4 * ((i / 4 + (4 - i % 4)) % 4)
 
 unfoldable pub invShiftRows : List ℕ → List ℕ
 invShiftRows s = tab 16 (λ i. at s (shiftedBackFrom i))
-
--- 5.3.2, Table 6: the inverse S-box written out
-unfoldable pub invSBox : List ℕ
-invSBox = tab 256 invSub
 
 unfoldable pub invSubBytes : List ℕ → List ℕ
 invSubBytes s = tab 16 (λ i. invSub (at s i))

@@ -1,13 +1,12 @@
 // AES-128 both ways, by FIPS 197: key expansion, and a block under a schedule or under a key.
 ghost use mathlib.Core.Path.{_≡_};
 ghost use Prim.Native.Nat.{_<_};
-ghost use Rattle.aes.specs.Fips197.{sBox, invSBox, keyExpansion, round, cipher, invRound, invCipher};
+ghost use Rattle.field.specs.Field.{sBox, invSBox};
+ghost use Rattle.aes.specs.Fips197.{keyExpansion, round, cipher, invRound, invCipher};
 
 mod columns;
-mod inverse_substitution;
 mod schedule;
 mod steps;
-mod substitution;
 
 // The schedule of a key: the bytes of its 44 words.
 pub fn expand(key: [u8; 16]) -> [u8; 176]
@@ -35,7 +34,7 @@ fn one_inverse_round(table: &[u8; 256], schedule: &[u8; 176], r: usize, s: [u8; 
 pub fn encrypt_under(schedule: &[u8; 176], block: [u8; 16]) -> [u8; 16]
     ensures { λ r. ⌜ r ≡ cipher (now (schedule .entry)) block ⌝ }
 {
-    let table = substitution::table();
+    let table = field::substitution::table();
     let mut s = steps::add_round_key(schedule, 0, block);
     let mut n = 0;
     while n < 9 {
@@ -50,7 +49,7 @@ pub fn encrypt_under(schedule: &[u8; 176], block: [u8; 16]) -> [u8; 16]
 pub fn decrypt_under(schedule: &[u8; 176], block: [u8; 16]) -> [u8; 16]
     ensures { λ r. ⌜ r ≡ invCipher (now (schedule .entry)) block ⌝ }
 {
-    let table = inverse_substitution::table();
+    let table = field::inverse_substitution::table();
     let mut s = steps::add_round_key(schedule, 10, block);
     let mut n = 9;
     while 0 < n {

@@ -3,9 +3,8 @@ ghost use mathlib.Core.Path.{_≡_};
 ghost use Prim.Native.Nat.{_+_, _<_};
 ghost use lib.ListN.{length, take};
 ghost use Rattle.base.specs.Bytes.{tab, at};
-ghost use Rattle.aes.specs.Field.{sub};
-ghost use Rattle.aes.specs.Fips197.{sBox, temp, nextWord, keyExpansion};
-use crate::substitution;
+ghost use Rattle.field.specs.Field.{sub, sBox};
+ghost use Rattle.aes.specs.Fips197.{word, temp, nextWord, keyExpansion};
 
 // The round constants, from round 1 on: x^0, x^1, ..
 const RCON: [u8; 10] = [0x01, 0x02, 0x04, 0x08, 0x10, 0x20, 0x40, 0x80, 0x1b, 0x36];
@@ -36,12 +35,22 @@ fn added(table: &[u8; 256], q: [u8; 4], n: usize) -> [u8; 4]
     }
 }
 
-// The word n + 4, of the words n and n + 3.
-fn next_word(table: &[u8; 256], p: [u8; 4], q: [u8; 4], n: usize) -> [u8; 4]
-    requires { ⌜ (now table ≡ sBox) × (n < 40) ⌝ }
-    ensures { λ r. ⌜ r ≡ nextWord p q (n + 4) ⌝ }
+// The word i.
+fn word_at(w: &[u8; 176], i: usize) -> [u8; 4]
+    requires { ⌜ i < 44 ⌝ }
+    ensures { λ r. ⌜ r ≡ word (now (w .entry)) i ⌝ }
 {
-    let t = added(table, q, n);
+    let m = 4 * i;
+    [w[m], w[m + 1], w[m + 2], w[m + 3]]
+}
+
+// The word n + 4, of the words n and n + 3.
+fn next_word(table: &[u8; 256], w: &[u8; 176], n: usize) -> [u8; 4]
+    requires { ⌜ (now table ≡ sBox) × (n < 40) ⌝ }
+    ensures { λ r. ⌜ r ≡ nextWord (word (now (w .entry)) n) (word (now (w .entry)) (n + 3)) (n + 4) ⌝ }
+{
+    let p = word_at(w, n);
+    let t = added(table, word_at(w, n + 3), n);
     [p[0] ^ t[0], p[1] ^ t[1], p[2] ^ t[2], p[3] ^ t[3]]
 }
 
@@ -61,14 +70,11 @@ fn begun(key: [u8; 16]) -> [u8; 176]
 pub(crate) fn expanded(key: [u8; 16]) -> [u8; 176]
     ensures { λ r. ⌜ r ≡ keyExpansion key ⌝ }
 {
-    let table = substitution::table();
+    let table = field::substitution::table();
     let mut w = begun(key);
     let mut n = 0;
     while n < 40 {
-        let i = 4 * n;
-        let p = [w[i], w[i + 1], w[i + 2], w[i + 3]];
-        let q = [w[i + 12], w[i + 13], w[i + 14], w[i + 15]];
-        let t = next_word(&table, p, q, n);
+        let t = next_word(&table, &w, n);
         let m = 16 + 4 * n;
         w[m] = t[0];
         w[m + 1] = t[1];

@@ -1,10 +1,10 @@
 -- `aes::decrypt_under` meets its contract. The invariant: the n rounds that are left give what all nine would.
 -- Assumes nothing.
-use mathlib.Core.Path.{_≡_, refl}
-use Prim.Native.Nat.{_≤_}
+use mathlib.Core.Path.{_≡_, refl, ap, _∙_}
+use Prim.Native.Nat.{_-_, _≤_}
 use native.Mathlib.Omega.{arith}
 use borrow.Author.Needs.{needs}
-use Rattle.aes.specs.Fips197.{invRounds, invCipher}
+use Rattle.aes.specs.Fips197.{addRoundKey, invSubBytes, invShiftRows, invRounds, invCipher}
 use Rattle.aes.proofs.Rounds.{invRound-more, invRound-none}
 use Rattle.aes.proofs.decrypt_under.Statement.{statement}
 use Rattle.aes.proofs.decrypt_under.Tie as tie
@@ -23,7 +23,13 @@ one-inverse-round-requires c κs = (c .before .before .before .before .table .en
 
 loop-again : tie.Need-loop-again Inv-loop μ-loop
 loop-again c =
-    (omega arith, cc (invRound-more (c .before .before .before .before .before .before .args .schedule .now) (c .before .before .before .loop .n) (c .before .before .before .loop .s) (c .before .before .loop-test .taken)))
+    let w = c .before .before .before .before .before .before .args .schedule .now in
+    let l = c .before .before .before .loop in (
+      omega arith,
+      ap (invRounds w (l .n - 1)) (c .one-inverse-round .ensures)
+          ∙ invRound-more w (l .n) (l .s) (c .before .before .loop-test .taken)
+          ∙ l .inv .1,
+    )
 
 inv-sub-bytes-requires : tie.Need-inv-sub-bytes-requires Inv-loop μ-loop
 inv-sub-bytes-requires c κs = c .before .before .before .before .before .table .ensures
@@ -31,8 +37,16 @@ inv-sub-bytes-requires c κs = c .before .before .before .before .before .table 
 returns : tie.Need-returns Inv-loop μ-loop
 unfolding invCipher
 returns c =
-    let over : c .before .before .before .before .before .loop .n ≡ 0 = omega arith in
-    cc (invRound-none _ _ (c .before .before .before .before .before .loop .s) _ over (c .before .before .before .before .before .loop .inv .1))
+    let w = c .before .before .before .before .before .before .before .before .args .schedule .now in
+    let l = c .before .before .before .before .before .loop in
+    let over : l .n ≡ 0 = omega arith in
+    let after =
+    invRound-none w (l .n) (l .s) _ over (l .inv .1)
+    ∙ ap (invRounds w 9) (c .before .before .before .before .before .before .add-round-key .ensures) in
+    let substituted =
+    c .before .inv-sub-bytes .ensures
+    ∙ ap invSubBytes (c .before .before .inv-shift-rows .ensures ∙ ap invShiftRows after) in
+    c .add-round-key2 .ensures ∙ ap (addRoundKey w 0) substituted
 
 pub decrypt-under-spec : {M : Type 1} → statement M
 decrypt-under-spec =

@@ -1,10 +1,10 @@
 -- `aes::encrypt_under` meets its contract. The invariant: the state is that after n rounds.
 -- Assumes nothing.
-use mathlib.Core.Path.{_≡_, refl}
-use Prim.Native.Nat.{_-_, _≤_}
+use mathlib.Core.Path.{_≡_, refl, ap, ap₂, _∙_}
+use Prim.Native.Nat.{_+_, _-_, _≤_}
 use native.Mathlib.Omega.{arith}
 use borrow.Author.Needs.{needs}
-use Rattle.aes.specs.Fips197.{rounds, cipher}
+use Rattle.aes.specs.Fips197.{subBytes, shiftRows, addRoundKey, round, rounds, cipher}
 use Rattle.aes.proofs.Rounds.{round-more}
 use Rattle.aes.proofs.encrypt_under.Statement.{statement}
 use Rattle.aes.proofs.encrypt_under.Tie as tie
@@ -23,7 +23,12 @@ one-round-requires : tie.Need-one-round-requires Inv-loop μ-loop
 one-round-requires c κs = (c .before .before .before .before .table .ensures, omega arith)
 
 loop-again : tie.Need-loop-again Inv-loop μ-loop
-loop-again c = (omega arith, cc (round-more (c .before .before .before .before .before .before .args .schedule .now) (c .before .before .before .loop .n) (c .before .before .before .before .add-round-key .result)))
+loop-again c =
+    let w = c .before .before .before .before .before .before .args .schedule .now in
+    let l = c .before .before .before .loop in (
+      omega arith,
+      c .one-round .ensures ∙ ap (round w (l .n + 1)) (l .inv .1) ∙ round-more w (l .n) (c .before .before .before .before .add-round-key .result),
+    )
 
 sub-bytes-requires : tie.Need-sub-bytes-requires Inv-loop μ-loop
 sub-bytes-requires c κs = c .before .before .before .before .table .ensures
@@ -31,8 +36,12 @@ sub-bytes-requires c κs = c .before .before .before .before .table .ensures
 returns : tie.Need-returns Inv-loop μ-loop
 unfolding cipher
 returns c =
-    let all : c .before .before .before .before .before .loop .n ≡ 9 = omega arith in
-    cc
+    let w = c .before .before .before .before .before .before .before .before .args .schedule .now in
+    let l = c .before .before .before .before .before .loop in
+    let all : l .n ≡ 9 = omega arith in
+    let after = l .inv .1 ∙ ap₂ (rounds w) all (c .before .before .before .before .before .before .add-round-key .ensures) in
+    let shifted = c .before .shift-rows .ensures ∙ ap shiftRows (c .before .before .sub-bytes .ensures ∙ ap subBytes after) in
+    c .add-round-key2 .ensures ∙ ap (addRoundKey w 10) shifted
 
 pub encrypt-under-spec : {M : Type 1} → statement M
 encrypt-under-spec =

@@ -7,7 +7,13 @@ use Rattle.aes.proofs.schedule.added.Statement.{statement}
 use Rattle.aes.proofs.schedule.added.Tie as tie
 
 returns : tie.Need-returns
-returns c = cc (temp-turned (c .before .before .before .before .before .args .t2) (c .before .before .before .before .before .args .n) (c .before .before .before .before .before .pre .1) (c .before .before .before .before .if1 .taken))
+returns c =
+    let start = c .before .before .before .before .before in
+    temp-turned (start .args .t2) (start .args .n) (start .pre .1) (c .before .before .before .before .if1 .taken)
+    (c .before .before .before .substituted .ensures)
+    (c .before .before .substituted2 .ensures)
+    (c .before .substituted3 .ensures)
+    (c .substituted4 .ensures)
 
 returns-2 : tie.Need-returns-2
 returns-2 c = temp-kept (c .before .args .t2) (c .before .args .n) (c .if1 .left)

@@ -18,10 +18,12 @@ loop-holds : tie.Need-loop-holds Inv-loop μ-loop
 loop-holds c = started (c .begun .result) (c .begun .ensures .0)
 
 next-word-requires : tie.Need-next-word-requires Inv-loop μ-loop
-next-word-requires c κs = (c .before .before .before .before .table .ensures, omega arith)
+next-word-requires c κs = (c .before .before .before .before .before .table .ensures, omega arith)
 
 loop-again : tie.Need-loop-again Inv-loop μ-loop
-loop-again c = more (c .next-word .result) (c .before .before .before .loop .inv) (c .before .before .loop-test .taken) (c .next-word .ensures)
+loop-again c =
+    more (c .next-word .result) (c .before .before .before .before .loop .inv) (c .before .before .before .loop-test .taken)
+    (c .next-word .ensures)
 
 returns : tie.Need-returns Inv-loop μ-loop
 returns c =
@@ -31,10 +33,7 @@ returns c =
 pub expanded-spec : {M : Type 1} → statement M
 expanded-spec =
     tie.close
-    (tie.spec Inv-loop μ-loop (λ c κs. search needs) (λ c κs. search needs) loop-holds
-    -- the places of the two words that are read
-    (λ c. omega arith) (λ c. omega arith) (λ c. omega arith) (λ c. omega arith) (λ c. omega arith) (λ c. omega arith) (λ c. omega arith) (λ c. omega arith) (λ c. omega arith) (λ c. omega arith) (λ c. omega arith) (λ c. omega arith) (λ c. omega arith) (λ c. omega arith) (λ c. omega arith) (λ c. omega arith)
-    next-word-requires
+    (tie.spec Inv-loop μ-loop (λ c κs. search needs) (λ c κs. search needs) loop-holds next-word-requires
     -- the places of the word that is written
     (λ c. omega arith) (λ c. omega arith) (λ c. omega arith) (λ c. omega arith) (λ c. omega arith) (λ c. omega arith) (λ c. omega arith) (λ c. omega arith) (λ c. omega arith) (λ c. omega arith) (λ c. omega arith) (λ c. omega arith) (λ c. omega arith)
     -- the count

@@ -5,8 +5,8 @@ use mathlib.Core.List.{List}
 use Prim.Native.Nat.{ℕ}
 use native.Mathlib.Omega.{arith}
 use Rattle.base.specs.Bytes.{at}
-use Rattle.aes.specs.Field.{sub}
-use Rattle.aes.proofs.Tables.{sBox-entry}
+use Rattle.field.specs.Field.{sub}
+use Rattle.field.proofs.Tables.{sBox-entry}
 use Rattle.aes.proofs.schedule.substituted.Statement.{statement}
 use Rattle.aes.proofs.schedule.substituted.Tie as tie
 

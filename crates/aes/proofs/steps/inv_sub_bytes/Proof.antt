@@ -8,7 +8,7 @@ use mir.Syntax.{w8}
 use mir.Val.{Fits}
 use Rattle.base.specs.Bytes.{at}
 use Rattle.aes.specs.Fips197.{looked}
-use Rattle.aes.proofs.Tables.{looked-invSBox}
+use Rattle.aes.proofs.Lookup.{looked-invSBox}
 use Rattle.aes.proofs.steps.inv_sub_bytes.Statement.{statement}
 use Rattle.aes.proofs.steps.inv_sub_bytes.Tie as tie
 

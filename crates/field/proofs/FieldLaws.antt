@@ -1,17 +1,17 @@
--- The field's product is linear in its second factor, for each bit of it counts by itself; what it gives of bytes is a
--- byte; inverse and affine map are undone as they should be, by a test at each byte.
+-- The field's product is linear in its second factor, for each bit of it counts by itself; and what product, inverse and
+-- affine map give of bytes is a byte.
 -- Assumes nothing.
 use mathlib.Core.Path.{_≡_, refl, sym, ap, ap₂, _∙_}
 use mathlib.Core.Bool.{Bool, true, false}
 use Prim.Native.Nat.{ℕ, zero, suc, _/_, _%_, _<_}
-use native.Mathlib.Nat.{mod-lt, not-suc-le-zero, le-of-suc-le-suc}
+use native.Mathlib.Nat.{mod-lt}
 use native.Mathlib.Omega.{arith}
 use lib.Dec.{eqb}
 use lib.Bits.{xor-self, xor-zero-l, xor-zero-r, xor-mod, xor-shr}
 use Rattle.base.specs.Bytes.{pick, _⊕_}
 use Rattle.base.proofs.Xor.{xor-byte, xor-middle}
-use Rattle.base.proofs.Tested.{agree, bounded}
-use Rattle.aes.specs.Field.{xtime, mulBits, mul, squares, inverse, fromBits, affineBit, affine, invAffineBit, invAffine, sub, invSub}
+use Rattle.base.proofs.Tested.{bounded}
+use Rattle.field.specs.Field.{xtime, mulBits, mul, squares, inverse, fromBits, affineBit, affine, invAffineBit, invAffine, sub, invSub}
 
 -- ---- the product is linear
 
@@ -85,36 +85,3 @@ sub-byte b = affine-byte (inverse b)
 pub invSub-byte : (b : ℕ) → invSub b < 256
 unfolding invSub
 invSub-byte b = inverse-byte (invAffine b) (invAffine-byte b)
-
--- ---- inverses
-
--- the inverse of the definition is one: 4.4
-pub inverts : (b : ℕ) → 0 < b → b < 256 → mul b (inverse b) ≡ 1
-unfolding xtime mulBits mul squares inverse
-inverts zero h k = absurd (not-suc-le-zero h)
-inverts (suc b) h k = agree 255 (λ n. mul (suc n) (inverse (suc n))) (λ n. 1) tt b (le-of-suc-le-suc k)
-
--- and 0 goes to 0: 5.1.1
-pub inverse-zero : inverse 0 ≡ 0
-unfolding xtime mulBits mul squares inverse
-inverse-zero = refl
-
-inverse-twice : (b : ℕ) → b < 256 → inverse (inverse b) ≡ b
-unfolding xtime mulBits mul squares inverse
-inverse-twice = agree 256 (λ n. inverse (inverse n)) (λ n. n) tt
-
-affine-undone : (b : ℕ) → b < 256 → invAffine (affine b) ≡ b
-unfolding fromBits affine invAffine
-affine-undone = agree 256 (λ n. invAffine (affine n)) (λ n. n) tt
-
-affine-restored : (b : ℕ) → b < 256 → affine (invAffine b) ≡ b
-unfolding fromBits affine invAffine
-affine-restored = agree 256 (λ n. affine (invAffine n)) (λ n. n) tt
-
-pub invSub-sub : (b : ℕ) → b < 256 → invSub (sub b) ≡ b
-unfolding sub invSub
-invSub-sub b h = ap inverse (affine-undone (inverse b) (inverse-byte b h)) ∙ inverse-twice b h
-
-pub sub-invSub : (b : ℕ) → b < 256 → sub (invSub b) ≡ b
-unfolding sub invSub
-sub-invSub b h = ap affine (inverse-twice (invAffine b) (invAffine-byte b)) ∙ affine-restored b h

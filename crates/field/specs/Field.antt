@@ -1,9 +1,11 @@
--- The field of 256 elements, from FIPS 197, section 4. A byte stands for a polynomial of degree below 8 whose
--- coefficients are its bits; the sum of two bytes is their exclusive or (4.1).
+-- The field of 256 elements, from FIPS 197, section 4, and the substitution of a byte (5.1.1) with its inverse (5.3.2).
+-- A byte stands for a polynomial of degree below 8 whose coefficients are its bits; the sum of two bytes is their
+-- exclusive or (4.1).
 -- Assumes nothing.
+use mathlib.Core.List.{List}
 use Prim.Native.Nat.{ℕ, zero, suc, _+_, _*_, _/_, _%_, _^_}
 use lib.Dec.{ltb, eqb}
-use Rattle.base.specs.Bytes.{pick, _⊕_}
+use Rattle.base.specs.Bytes.{pick, tab, _⊕_}
 
 -- 4.2, XTIMES: b times x, modulo x^8 + x^4 + x^3 + x + 1
 unfoldable pub xtime : ℕ → ℕ
@@ -57,3 +59,11 @@ sub b = affine (inverse b)
 -- 5.3.2, INVSBOX: the two undone in the other order
 unfoldable pub invSub : ℕ → ℕ
 invSub b = inverse (invAffine b)
+
+-- 5.1.1, Table 4: the S-box written out
+unfoldable pub sBox : List ℕ
+sBox = tab 256 sub
+
+-- 5.3.2, Table 6: the inverse S-box written out
+unfoldable pub invSBox : List ℕ
+invSBox = tab 256 invSub

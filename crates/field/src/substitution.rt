@@ -1,6 +1,6 @@
 // The S-box written out: FIPS 197, Table 4.
 ghost use mathlib.Core.Path.{_≡_};
-ghost use Rattle.aes.specs.Fips197.{sBox};
+ghost use Rattle.field.specs.Field.{sBox};
 
 const SBOX: [u8; 256] = [
     0x63,
@@ -262,7 +262,7 @@ const SBOX: [u8; 256] = [
 ];
 
 // A const array is copied wherever it is used: callers take it once and hand it on as a reference.
-pub(crate) fn table() -> [u8; 256]
+pub fn table() -> [u8; 256]
     ensures { λ r. ⌜ r ≡ sBox ⌝ }
 {
     SBOX

@@ -1,6 +1,6 @@
 // The inverse S-box written out: FIPS 197, Table 6.
 ghost use mathlib.Core.Path.{_≡_};
-ghost use Rattle.aes.specs.Fips197.{invSBox};
+ghost use Rattle.field.specs.Field.{invSBox};
 
 const INV_SBOX: [u8; 256] = [
     0x52,
@@ -262,7 +262,7 @@ const INV_SBOX: [u8; 256] = [
 ];
 
 // All that the inverse cipher knows of inverse substitution.
-pub(crate) fn table() -> [u8; 256]
+pub fn table() -> [u8; 256]
     ensures { λ r. ⌜ r ≡ invSBox ⌝ }
 {
     INV_SBOX

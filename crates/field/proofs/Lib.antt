@@ -1,0 +1,4 @@
+pub mod Determined
+pub mod FieldLaws
+pub mod Inverses
+pub mod Tables
