@@ -12,7 +12,7 @@ use Rattle.cmac.specs.Compared.{sameBytes}
 use Rattle.cmac.proofs.Compared.{same-of-test, test-of-same}
 use Rattle.frame.specs.Conditions.{IsData, Gives, of12, of1, of2, of3, of4}
 use Rattle.frame.specs.Layout.{fcnt, micOf}
-use Rattle.frame.specs.Numbers.{onData}
+use Rattle.numbers.specs.Numbers.{onData}
 use Rattle.frame.specs.Reading.{readOf}
 use Rattle.secure.specs.Security.{dataMic}
 use Rattle.frame.specs.declared.parser.Reading.{Reading}

@@ -20,11 +20,11 @@ use Rattle.cmac.specs.Rfc4493.{zeros, chain, mac, mic}
 use Rattle.cmac.proofs.Laws.{chain-zero, chain-suc}
 use Rattle.frame.specs.Conditions.{IsData}
 use Rattle.frame.specs.Layout.{fcnt, micOf}
-use Rattle.frame.specs.Numbers.{otherNumber, placeOf, onData}
+use Rattle.numbers.specs.Numbers.{otherNumber, placeOf, onData}
 use Rattle.frame.specs.Reading.{dataOf, readOf}
 use Rattle.frame.specs.declared.parser.DataFrame.{DataFrame}
 use Rattle.frame.specs.declared.parser.Reading.the-variants.{Data}
-use Rattle.frame.proofs.Others.{not-data}
+use Rattle.numbers.proofs.Others.{not-data}
 use Rattle.frame.proofs.ReadingLaws.{reads-data, data-fields}
 use Rattle.frame.proofs.parser.Reading as R
 use Rattle.secure.specs.Security.{startOf, helperBlock, dataMic}

@@ -11,7 +11,7 @@ use Rattle.aes.specs.Fips197.{keyExpansion}
 use Rattle.cmac.specs.Rfc4493.{chain}
 use Rattle.cmac.specs.Compared.{sameBytes}
 use Rattle.frame.specs.Layout.{fcnt, micOf}
-use Rattle.frame.specs.Numbers.{onData}
+use Rattle.numbers.specs.Numbers.{onData}
 use Rattle.frame.specs.Reading.{readOf}
 use Rattle.secure.specs.Security.{helperBlock, dataMic}
 use Rattle.amend.specs.declared.Open.{Open}

@@ -319,10 +319,7 @@ pub fn open_frame(frame: &[u8], nwk_skey: [u8; 16], app_skey: [u8; 16], counter:
 {
     let reading = frame::parser::read(frame);
     let Reading::Data(data) = reading else {
-        return refused(
-            frame::parser::other_number(reading),
-            frame::parser::place_of(reading),
-        );
+        return refused(numbers::other_number(reading), numbers::place_of(reading));
     };
     let fcnt = data.fcnt;
     let given = counter % 65536;

@@ -19,15 +19,15 @@ use Rattle.base.proofs.Tab.{tab-at, tab-ext}
 use Rattle.frame.specs.Layout.{mtype, major, micOf}
 use Rattle.frame.specs.Reading.{readOf}
 use Rattle.frame.specs.Conditions.{IsJoinRequest, IsJoinAccept}
-use Rattle.frame.specs.Joining.{requestFields, acceptFields, cfListOf, frequenciesOf, masksOf, frequencyAt, zeros}
+use Rattle.joining.specs.Joining.{requestFields, acceptFields, cfListOf, frequenciesOf, masksOf, frequencyAt, zeros}
 use Rattle.build.specs.Building.{acceptHead, cfListBytes, frequencyBytes, tooHigh, joinAcceptBody, joinAcceptLength, joinAcceptRefusal, joinRequestBody}
 use Rattle.build.specs.Frames.{signed, joinRequest, joinAccept}
 use Rattle.secure.specs.JoinAccept.{acceptDecrypted}
 use Rattle.secure.specs.Security.{joinMic}
-use Rattle.frame.specs.declared.parser.CfList.{CfList}
-use Rattle.frame.specs.declared.parser.CfList.the-variants.{Absent, Frequencies, Masks}
-use Rattle.frame.specs.declared.parser.JoinAcceptFields.{JoinAcceptFields}
-use Rattle.frame.specs.declared.parser.JoinRequestFields.{JoinRequestFields}
+use Rattle.joining.specs.declared.CfList.{CfList}
+use Rattle.joining.specs.declared.CfList.the-variants.{Absent, Frequencies, Masks}
+use Rattle.joining.specs.declared.JoinAcceptFields.{JoinAcceptFields}
+use Rattle.joining.specs.declared.JoinRequestFields.{JoinRequestFields}
 use Rattle.frame.specs.declared.parser.Reading.the-variants.{JoinRequest, JoinAccept}
 use Rattle.build.specs.declared.creator.JoinAcceptParts.{JoinAcceptParts}
 use Rattle.build.specs.declared.creator.JoinRequestParts.{JoinRequestParts}

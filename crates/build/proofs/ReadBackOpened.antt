@@ -19,7 +19,7 @@ use Rattle.frame.specs.declared.parser.FPort.{FPort}
 use Rattle.frame.specs.declared.parser.FPort.the-variants.{Absent, Port}
 use Rattle.frame.specs.declared.parser.FrmPayload.{FrmPayload}
 use Rattle.frame.specs.declared.parser.FrmPayload.the-variants.{Data as PlainData, MacCommands}
-use Rattle.frame.specs.Numbers.{onAccept}
+use Rattle.numbers.specs.Numbers.{onAccept}
 use Rattle.frame.proofs.ReadingLaws.{data-read, request-read}
 use Rattle.frame.proofs.ReadingSteps.{port-there, port-absent, payload-commands, payload-data}
 use Rattle.secure.specs.Opening.{Result, result, unopened, message, joinPasses, joinRequestTest, dataTest, acceptTested, acceptOpenedChecked, dataOpened, givenKey}

@@ -5,9 +5,9 @@ use mathlib.Core.List.{List, [], _∷_, _++_}
 use Prim.Native.Nat.{ℕ, _-_, _/_, _%_}
 use lib.ListN.{length}
 use Rattle.base.specs.Bytes.{pick, at}
-use Rattle.frame.specs.Numbers.{numberOf, placeOf, valuesOf}
+use Rattle.numbers.specs.Numbers.{numberOf, placeOf, valuesOf}
 use Rattle.frame.specs.Reading.{readOf}
-use Rattle.frame.specs.declared.parser.Values.{Values}
+use Rattle.numbers.specs.declared.Values.{Values}
 use Rattle.secure.specs.declared.payload.SessionKeys.{SessionKeys}
 use Rattle.frame_c.specs.Answers.{orShort, Fills}
 

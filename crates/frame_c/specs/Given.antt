@@ -5,7 +5,7 @@ use mathlib.Core.List.{List, [], _∷_}
 use Prim.Native.Nat.{ℕ, _/_, _%_}
 use lib.Dec.{ltb, eqb}
 use Rattle.base.specs.Bytes.{pick, at}
-use Rattle.frame.specs.Control.{uplinkOf, confirmedOf}
+use Rattle.control.specs.Control.{uplinkOf, confirmedOf}
 use Rattle.frame.specs.declared.parser.FPort.{FPort}
 use Rattle.frame.specs.declared.parser.FPort.the-variants.{Absent, Port}
 use Rattle.build.specs.Building.{dataRefusal}

@@ -11,9 +11,9 @@ use build::creator::Built;
 use build::creator::DataParts;
 use build::creator::JoinAcceptParts;
 use build::creator::JoinRequestParts;
+use control::is_confirmed;
+use control::is_uplink;
 use frame::parser::FPort;
-use frame::parser::is_confirmed;
-use frame::parser::is_uplink;
 
 fn built_number(built: Built) -> u8
     ensures { λ r. ⌜ r ≡ builtNumber built ⌝ }

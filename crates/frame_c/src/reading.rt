@@ -6,13 +6,13 @@ ghost use Rattle.frame_c.specs.Fields.{fieldsOf, ReadInto};
 use crate::answers::answer;
 use crate::storing::or_short;
 use crate::storing::put;
+use control::message_type;
 use frame::packet_length::MIC_LEN;
-use frame::parser::Values;
-use frame::parser::message_type;
-use frame::parser::number_of;
-use frame::parser::place_of;
 use frame::parser::read;
-use frame::parser::values_of;
+use numbers::Values;
+use numbers::number_of;
+use numbers::place_of;
+use numbers::values_of;
 
 pub(crate) const FIELDS_LEN: usize = 12;
 

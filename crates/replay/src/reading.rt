@@ -9,15 +9,15 @@ use crate::output::put_flag;
 use crate::output::put_length;
 use crate::output::put_number;
 use crate::output::put_place;
-use frame::parser::CfList;
-use frame::parser::FCtrl;
-use frame::parser::JoinAcceptFields;
-use frame::parser::Values;
-use frame::parser::is_uplink;
-use frame::parser::join_accept_fields;
-use frame::parser::join_request_fields;
+use control::FCtrl;
+use control::is_uplink;
 use frame::parser::read;
-use frame::parser::values_of;
+use joining::CfList;
+use joining::JoinAcceptFields;
+use joining::join_accept_fields;
+use joining::join_request_fields;
+use numbers::Values;
+use numbers::values_of;
 
 fn put_request(frame: &[u8]) {
     let fields = join_request_fields(frame);

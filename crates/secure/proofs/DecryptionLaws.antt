@@ -21,7 +21,7 @@ use Rattle.cmac.proofs.Compared.{same-of-test, test-of-same}
 use Rattle.frame.specs.Conditions.{IsJoinRequest, IsJoinAccept, IsData}
 use Rattle.secure.specs.JoinAccept.{eachBlock, acceptDecrypted}
 use Rattle.frame.specs.Layout.{fcnt, header, headerEnd, payloadEnd, micOf}
-use Rattle.frame.specs.Numbers.{onRequest, onAccept, onData}
+use Rattle.numbers.specs.Numbers.{onRequest, onAccept, onData}
 use Rattle.secure.specs.Opening.{message, joinPasses, dataPasses, answered, joinRequestTest, joinAcceptTest, dataTest, Result, unopened, selected, decrypted, openedUnder, dataOpened, sessionKey, keyBlock}
 use Rattle.frame.specs.Reading.{readOf}
 use Rattle.secure.specs.Security.{crypted, cryptedPart, fullCounter, dataMic, joinMic}
@@ -34,7 +34,7 @@ use Rattle.secure.specs.declared.payload.MicTest.the-variants.{Passes, R
 use Rattle.frame.proofs.LayoutLaws.{placed, read-same}
 use Rattle.secure.proofs.OpeningLaws.{pick-true, pick-false}
 use Rattle.frame.proofs.ReadingLaws.{reads-request, reads-accept, reads-data, data-read}
-use Rattle.frame.proofs.Refusals.{Exactly}
+use Rattle.numbers.proofs.Refusals.{Exactly}
 use Rattle.secure.proofs.SecurityLaws.{crypted-long, cryptedPart-long, cryptedPart-twice}
 
 -- ---- the MIC

@@ -14,7 +14,7 @@ use Rattle.base.specs.Bytes.{pick, at}
 use Rattle.base.proofs.Cases.{by-order}
 use Rattle.frame.specs.Conditions.{IsData}
 use Rattle.frame.specs.Layout.{fcnt, fport, fhdrLength, header, headerEnd, payload, payloadStart, payloadEnd, micOf}
-use Rattle.frame.specs.Numbers.{portNumber, onData}
+use Rattle.numbers.specs.Numbers.{portNumber, onData}
 use Rattle.frame.specs.Reading.{portOf, dataOf, readOf}
 use Rattle.frame.specs.declared.keys.MaybeKey.{MaybeKey}
 use Rattle.frame.specs.declared.parser.FPort.{FPort}

@@ -17,12 +17,12 @@ use Rattle.aes.specs.Fips197.{keyExpansion, cipher}
 use Rattle.aes.proofs.Laws.{cipher-long}
 use Rattle.secure.specs.JoinAccept.{eachBlock, fromOne, acceptDecrypted}
 use Rattle.frame.specs.Layout.{micOf}
-use Rattle.frame.specs.Numbers.{onRequest, onAccept, onData}
+use Rattle.numbers.specs.Numbers.{onRequest, onAccept, onData}
 use Rattle.secure.specs.Opening.{keyBlock}
 use Rattle.frame.specs.Reading.{readOf}
 use Rattle.frame.specs.declared.parser.Reading.{Reading}
 use Rattle.secure.proofs.Blocks.{Blocking, step, blocks-long}
-use Rattle.frame.proofs.Others.{is-request, is-accept, is-data}
+use Rattle.numbers.proofs.Others.{is-request, is-accept, is-data}
 use Rattle.frame.proofs.ReadingLaws.{request-read, accept-read, data-read}
 use Rattle.frame.proofs.parser.Reading as R
 

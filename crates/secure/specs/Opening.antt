@@ -12,7 +12,7 @@ use Rattle.aes.specs.Fips197.{keyExpansion, cipher}
 use Rattle.cmac.specs.Compared.{sameBytes}
 use Rattle.frame.specs.Layout.{fcnt, headerEnd, payloadEnd, micOf}
 use Rattle.secure.specs.JoinAccept.{acceptDecrypted}
-use Rattle.frame.specs.Numbers.{portNumber, onRequest, onAccept, onData}
+use Rattle.numbers.specs.Numbers.{portNumber, onRequest, onAccept, onData}
 use Rattle.frame.specs.Reading.{readOf}
 use Rattle.secure.specs.Security.{cryptedPart, fullCounter, dataMic, joinMic}
 use Rattle.frame.specs.declared.keys.MaybeKey.{MaybeKey}

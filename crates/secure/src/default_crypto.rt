@@ -16,9 +16,9 @@ use crate::payload::select;
 use frame::keys::MaybeKey;
 use frame::parser::DataFrame;
 use frame::parser::Reading;
-use frame::parser::other_number;
-use frame::parser::place_of;
 use frame::parser::read;
+use numbers::other_number;
+use numbers::place_of;
 
 pub const INVALID_MIC: u8 = 5;
 

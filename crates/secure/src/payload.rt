@@ -17,10 +17,10 @@ use frame::packet_length::MIC_LEN;
 use frame::parser::DataFrame;
 use frame::parser::FPort;
 use frame::parser::Reading;
-use frame::parser::other_number;
-use frame::parser::place_of;
-use frame::parser::port_number;
 use frame::parser::read;
+use numbers::other_number;
+use numbers::place_of;
+use numbers::port_number;
 
 pub const INVALID_KEY: u8 = 6;
 

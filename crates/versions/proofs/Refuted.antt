@@ -10,11 +10,11 @@ use lib.ListN.{take, drop}
 use Rattle.base.specs.Bytes.{tab, at}
 use Rattle.frame.specs.Conditions.{IsData}
 use Rattle.frame.specs.Layout.{header, micOf}
-use Rattle.frame.specs.Numbers.{numberOf, dataValues, valuesOf}
+use Rattle.numbers.specs.Numbers.{numberOf, dataValues, valuesOf}
 use Rattle.frame.specs.Reading.{portOf, payloadOf, dataOf, readData, readType, readOf}
 use Rattle.frame.specs.declared.parser.FPort.the-variants.{Absent}
 use Rattle.frame.specs.declared.parser.Reading.{Reading}
-use Rattle.frame.specs.declared.parser.Values.{Values}
+use Rattle.numbers.specs.declared.Values.{Values}
 use Rattle.secure.specs.Sealing.{sealed}
 use Rattle.build.specs.Building.{dataRefusal, dataHeader, fixedHeader}
 use Rattle.build.specs.declared.creator.Built.{Built}

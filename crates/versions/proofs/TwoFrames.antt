@@ -6,8 +6,8 @@ use mathlib.Core.List.{List, [], _∷_}
 use Prim.Native.Nat.{ℕ}
 use Rattle.base.specs.Bytes.{xorL}
 use Rattle.base.specs.Mask.{masked}
-use Rattle.aes.specs.Field.{xtime, mulBits, mul, squares, inverse, fromBits, affine, sub}
-use Rattle.aes.specs.Fips197.{sBox, looked, row, subBytes, shiftRows, mixColumns, addRoundKey, round, rounds, cipher, powerOfX, nextWord, words, keyExpansion}
+use Rattle.field.specs.Field.{xtime, mulBits, mul, squares, inverse, fromBits, affine, sub}
+use Rattle.aes.specs.Fips197.{row, subBytes, shiftRows, mixColumns, addRoundKey, round, rounds, cipher, powerOfX, nextWord, words, keyExpansion}
 use Rattle.cmac.specs.Rfc4493.{shifted, doubled, subkey1, subkey2, chain, ahead, padded, lastBlock, closed, tag, mac, mic}
 use Rattle.frame.specs.Layout.{header}
 use Rattle.secure.specs.Sealing.{payloadKey, enciphered, sealed}
@@ -26,9 +26,9 @@ abbrev pub frameOf : ℕ → List ℕ
 frameOf v = sealed key key 0 (header template) (v ∷ [])
 
 pub frame-of-1 : frameOf 1 ≡ 0x40 ∷ 1 ∷ 2 ∷ 3 ∷ 4 ∷ 0 ∷ 0 ∷ 0 ∷ 1 ∷ 0x51 ∷ 0xaa ∷ 0x9b ∷ 0x1d ∷ 0xa8 ∷ []
-unfolding xtime mulBits mul squares inverse fromBits affine sub sBox looked row subBytes shiftRows mixColumns addRoundKey round rounds cipher powerOfX nextWord words keyExpansion xorL shifted doubled subkey1 subkey2 chain ahead padded lastBlock closed tag mac mic masked helperBlock streamAt crypted dataMic payloadKey enciphered sealed
+unfolding xtime mulBits mul squares inverse fromBits affine sub row subBytes shiftRows mixColumns addRoundKey round rounds cipher powerOfX nextWord words keyExpansion xorL shifted doubled subkey1 subkey2 chain ahead padded lastBlock closed tag mac mic masked helperBlock streamAt crypted dataMic payloadKey enciphered sealed
 frame-of-1 = refl
 
 pub frame-of-2 : frameOf 2 ≡ 0x40 ∷ 1 ∷ 2 ∷ 3 ∷ 4 ∷ 0 ∷ 0 ∷ 0 ∷ 1 ∷ 0x52 ∷ 0x6c ∷ 0x6b ∷ 0xbc ∷ 0xa4 ∷ []
-unfolding xtime mulBits mul squares inverse fromBits affine sub sBox looked row subBytes shiftRows mixColumns addRoundKey round rounds cipher powerOfX nextWord words keyExpansion xorL shifted doubled subkey1 subkey2 chain ahead padded lastBlock closed tag mac mic masked helperBlock streamAt crypted dataMic payloadKey enciphered sealed
+unfolding xtime mulBits mul squares inverse fromBits affine sub row subBytes shiftRows mixColumns addRoundKey round rounds cipher powerOfX nextWord words keyExpansion xorL shifted doubled subkey1 subkey2 chain ahead padded lastBlock closed tag mac mic masked helperBlock streamAt crypted dataMic payloadKey enciphered sealed
 frame-of-2 = refl

@@ -5,7 +5,7 @@ use mathlib.Core.List.{List, [], _∷_}
 use Prim.Native.Nat.{ℕ, _+_}
 use lib.ListN.{length, take, set}
 use Rattle.frame.specs.Layout.{payloadStart, micOf}
-use Rattle.frame.specs.Numbers.{numberOf, valuesOf}
+use Rattle.numbers.specs.Numbers.{numberOf, valuesOf}
 use Rattle.frame.specs.Reading.{readOf}
 use Rattle.frame.specs.declared.parser.Reading.{Reading}
 use Rattle.build.specs.Building.{dataRefusal}

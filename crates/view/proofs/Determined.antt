@@ -21,7 +21,7 @@ use Rattle.view.specs.Parts.{seen}
 use Rattle.view.specs.Viewed.{viewOf, partOf}
 use Rattle.view.specs.declared.parts.Field.{Field}
 use Rattle.view.specs.declared.parts.Field.the-variants.{DevAddr, FOpts, Payload, AppEui, DevEui, DevNonce, Mic}
-use Rattle.view.proofs.numbers.read_numbers.Reads as read-numbers
+use Rattle.view.proofs.frame_numbers.read_numbers.Reads as read-numbers
 use Rattle.view.proofs.parts.place_of.Reads as place-of
 use Rattle.view.proofs.parts.piece.Reads as piece
 use Rattle.view.proofs.parts.shown.Reads as shown

@@ -14,7 +14,7 @@ use Rattle.base.specs.Bytes.{pick, at, part}
 use Rattle.base.proofs.Cases.{by-bool, by-order}
 use Rattle.frame.specs.Layout.{mtype, fhdrLength, hasPort, fport, headerEnd, payloadStart, payloadEnd}
 use Rattle.frame.specs.Reading.{portOf, payloadOf, dataOf, readOf}
-use Rattle.frame.specs.Numbers.{portGiven, portNumber, payloadKind, payloadFrom, payloadTo}
+use Rattle.numbers.specs.Numbers.{portGiven, portNumber, payloadKind, payloadFrom, payloadTo}
 use Rattle.frame.specs.Conditions.{IsData, Gives, of12, of1, of2, of3, of4}
 use Rattle.frame.specs.declared.parser.FrmPayload.{FrmPayload}
 use Rattle.frame.specs.declared.parser.FrmPayload.the-variants.{Nothing, Data as PlainData, MacCommands}

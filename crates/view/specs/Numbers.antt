@@ -8,11 +8,11 @@ use lib.Dec.{ltb, eqb}
 use lib.ListN.{length}
 use Rattle.base.specs.Bytes.{pick}
 use Rattle.frame.specs.Layout.{mtype, fctrl, fcnt, fhdrLength, hasPort, fport, payloadStart, payloadEnd}
-use Rattle.frame.specs.Numbers.{portGiven, portNumber, payloadKind, payloadFrom, payloadTo}
+use Rattle.numbers.specs.Numbers.{portGiven, portNumber, payloadKind, payloadFrom, payloadTo}
 use Rattle.frame.specs.declared.parser.DataFrame.{DataFrame}
 use Rattle.frame.specs.declared.parser.Reading.{Reading}
 use Rattle.frame.specs.declared.parser.Reading.the-variants.{JoinRequest, JoinAccept, Data, Refused}
-use Rattle.view.specs.declared.numbers.Numbers.{Numbers}
+use Rattle.view.specs.declared.frame_numbers.Numbers.{Numbers}
 
 -- no field of a data frame
 abbrev pub bareNumbers : ℕ → ℕ → ℕ → Numbers

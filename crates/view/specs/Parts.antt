@@ -7,7 +7,7 @@ use lib.Dec.{ltb, eqb}
 use lib.ListN.{length}
 use denote.Ref.{RefT}
 use Rattle.base.specs.Bytes.{pick, part}
-use Rattle.view.specs.declared.numbers.Numbers.{Numbers}
+use Rattle.view.specs.declared.frame_numbers.Numbers.{Numbers}
 use Rattle.view.specs.declared.parts.Field.{Field}
 use Rattle.view.specs.declared.parts.Field.the-variants.{DevAddr, FOpts, Payload, AppEui, DevEui, DevNonce, Mic}
 use Rattle.view.specs.declared.parts.Place.{Place}

@@ -1,10 +1,10 @@
 // A view of a frame: the caller's bytes with the place of each field in them. A part that is shown is that part of the
 // caller's own slice; nothing is copied.
-pub mod numbers;
+pub mod frame_numbers;
 pub mod parts;
 
-use numbers::Numbers;
-use numbers::read_numbers;
+use frame_numbers::Numbers;
+use frame_numbers::read_numbers;
 use parts::Field;
 use parts::shown;
 ghost use mathlib.Core.Path.{_≡_};

@@ -1,6 +1,6 @@
 // The parts of a frame as parts of the caller's slice. Each function is total: what does not lie within the slice, or is
 // no part of a frame of that type, is shown as the empty part.
-use crate::numbers::Numbers;
+use crate::frame_numbers::Numbers;
 ghost use mathlib.Core.Path.{_≡_};
 ghost use Rattle.view.specs.Parts.{joinPlace, dataPlace, placeOf, pieceOf, shownOf, seen, within};
 

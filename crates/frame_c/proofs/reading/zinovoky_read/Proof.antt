@@ -8,7 +8,7 @@ use native.Mathlib.Omega.{arith}
 use denote.Ref.{now}
 use lib.ListN.{length, length-append}
 use Rattle.base.specs.Bytes.{at}
-use Rattle.frame.specs.Numbers.{numberOf, placeOf, valuesOf}
+use Rattle.numbers.specs.Numbers.{numberOf, placeOf, valuesOf}
 use Rattle.frame_c.specs.Answers.{orShort}
 use Rattle.frame_c.specs.Fields.{fieldsOf}
 use Rattle.frame_c.proofs.Fillings.{room-left, refused, stored}

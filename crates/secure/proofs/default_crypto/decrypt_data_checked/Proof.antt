@@ -3,8 +3,8 @@
 use mathlib.Core.Path.{sym, ap, _∙_}
 use denote.Ref.{now}
 use Rattle.secure.specs.Opening.{unopened, openedTested, dataOpenedChecked}
-use Rattle.frame.specs.Numbers.{onData}
-use Rattle.frame.proofs.Others.{not-data}
+use Rattle.numbers.specs.Numbers.{onData}
+use Rattle.numbers.proofs.Others.{not-data}
 use Rattle.frame.proofs.ReadingLaws.{data-read, data-fields}
 use borrow.Author.Needs.{needs}
 use Rattle.secure.proofs.default_crypto.decrypt_data_checked.Statement.{statement}

@@ -3,7 +3,7 @@
 -- Assumes nothing.
 use denote.Ref.{now}
 use Rattle.secure.specs.Opening.{unopened, acceptTested, acceptOpenedChecked}
-use Rattle.frame.proofs.Others.{not-accept}
+use Rattle.numbers.proofs.Others.{not-accept}
 use Rattle.secure.proofs.OpeningLaws.{on-accept, accept-length}
 use borrow.Author.Needs.{needs}
 use Rattle.secure.proofs.default_crypto.decrypt_join_accept_checked.Statement.{statement}

@@ -4,7 +4,7 @@ use native.Mathlib.Omega.{arith}
 use denote.Ref.{now}
 use Rattle.secure.specs.Opening.{dataPasses, answered, dataTest}
 use Rattle.secure.specs.declared.payload.MicTest.the-variants.{Refused}
-use Rattle.frame.proofs.Others.{not-data}
+use Rattle.numbers.proofs.Others.{not-data}
 use Rattle.secure.proofs.OpeningLaws.{on-data, data-length}
 use borrow.Author.Needs.{needs}
 use Rattle.secure.proofs.payload.data_mic.Statement.{statement}

@@ -6,7 +6,7 @@ use denote.Ref.{now}
 use Rattle.secure.specs.JoinAccept.{acceptDecrypted}
 use Rattle.secure.specs.Opening.{result, unopened, acceptOpened}
 use Rattle.secure.specs.declared.payload.Opening.the-variants.{Opened}
-use Rattle.frame.proofs.Others.{not-accept}
+use Rattle.numbers.proofs.Others.{not-accept}
 use Rattle.secure.proofs.OpeningLaws.{on-accept, accept-length}
 use borrow.Author.Needs.{needs}
 use Rattle.secure.proofs.payload.decrypt_join_accept.Statement.{statement}

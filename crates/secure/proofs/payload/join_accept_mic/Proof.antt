@@ -4,7 +4,7 @@ use native.Mathlib.Omega.{arith}
 use denote.Ref.{now}
 use Rattle.secure.specs.Opening.{joinPasses, answered, joinAcceptTest}
 use Rattle.secure.specs.declared.payload.MicTest.the-variants.{Refused}
-use Rattle.frame.proofs.Others.{not-accept}
+use Rattle.numbers.proofs.Others.{not-accept}
 use Rattle.secure.proofs.OpeningLaws.{on-accept, accept-length}
 use borrow.Author.Needs.{needs}
 use Rattle.secure.proofs.payload.join_accept_mic.Statement.{statement}

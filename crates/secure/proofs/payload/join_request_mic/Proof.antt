@@ -4,7 +4,7 @@ use native.Mathlib.Omega.{arith}
 use denote.Ref.{now}
 use Rattle.secure.specs.Opening.{joinPasses, answered, joinRequestTest}
 use Rattle.secure.specs.declared.payload.MicTest.the-variants.{Refused}
-use Rattle.frame.proofs.Others.{not-request}
+use Rattle.numbers.proofs.Others.{not-request}
 use Rattle.secure.proofs.OpeningLaws.{on-request, request-length}
 use borrow.Author.Needs.{needs}
 use Rattle.secure.proofs.payload.join_request_mic.Statement.{statement}

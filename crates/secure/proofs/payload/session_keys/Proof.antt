@@ -3,7 +3,7 @@
 use native.Mathlib.Omega.{arith}
 use denote.Ref.{now}
 use Rattle.secure.specs.Opening.{derivedKeys, noKeys, sessionKeys}
-use Rattle.frame.proofs.Others.{not-accept}
+use Rattle.numbers.proofs.Others.{not-accept}
 use Rattle.secure.proofs.OpeningLaws.{on-accept, accept-length}
 use borrow.Author.Needs.{needs}
 use Rattle.secure.proofs.payload.session_keys.Statement.{statement}

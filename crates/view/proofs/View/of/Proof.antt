@@ -41,15 +41,15 @@ use denote.Exit.{yes}
 use Rattle.frame.specs.Reading.{readOf}
 use Rattle.view.specs.Numbers.{numbersOf}
 use Rattle.view.specs.declared.View.{View}
-use Rattle.view.specs.declared.numbers.Numbers.{Numbers}
+use Rattle.view.specs.declared.frame_numbers.Numbers.{Numbers}
 use Rattle.view.proofs.View as T
 use Rattle.view.proofs.View.Laws as T′
-use Rattle.view.proofs.numbers.Numbers as N
-use Rattle.view.proofs.numbers.Numbers.Laws as N′
-use Rattle.view.proofs.numbers.read_numbers as reading
-use Rattle.view.proofs.numbers.read_numbers.Symbol as reading-def
-use Rattle.view.proofs.numbers.read_numbers.Symbol.{name as #view·read-numbers}
-use Rattle.view.proofs.numbers.read_numbers.Met as reading-thm
+use Rattle.view.proofs.frame_numbers.Numbers as N
+use Rattle.view.proofs.frame_numbers.Numbers.Laws as N′
+use Rattle.view.proofs.frame_numbers.read_numbers as reading
+use Rattle.view.proofs.frame_numbers.read_numbers.Symbol as reading-def
+use Rattle.view.proofs.frame_numbers.read_numbers.Symbol.{name as #view·read-numbers}
+use Rattle.view.proofs.frame_numbers.read_numbers.Met as reading-thm
 use Rattle.view.proofs.View.of.Key.{name as #view·of}
 use Rattle.view.proofs.View.of as made
 use Rattle.view.proofs.View.of.Statement as stated
@@ -156,4 +156,4 @@ of-spec 𝓤 H 𝓜 𝓖 𝓡 =
     entered 𝓤 H (tripleOf 𝓤 H (𝓖 .A) made.signature (made.spec 𝓤 H (𝓖 .A) (𝓜 .mem) (𝓡 .run)))
     (tables 𝓤 H 𝓜 𝓡 code.env .C) (tables 𝓤 H 𝓜 𝓡 code.env .Λ) #view·of code.function (code.unfolded 𝓤 H 𝓜 𝓡)
     (of-meets 𝓤 H (𝓖 .A) (givenOf 𝓤 H 𝓜 𝓖) (𝓜 .mem) (𝓡 .run) (tablesOf 𝓤 H 𝓜 (tables 𝓤 H 𝓜 𝓡 code.env))
-    (cited 𝓤 H (Read 𝓤 H (𝓖 .A) (𝓜 .mem) (𝓡 .run)) 𝓜 𝓡 code.env #view·read-numbers reading-def.routine code.calls-view·numbers·read-numbers (reading-thm.met 𝓤 H 𝓜 𝓖 𝓡)))
+    (cited 𝓤 H (Read 𝓤 H (𝓖 .A) (𝓜 .mem) (𝓡 .run)) 𝓜 𝓡 code.env #view·read-numbers reading-def.routine code.calls-view·frame-numbers·read-numbers (reading-thm.met 𝓤 H 𝓜 𝓖 𝓡)))

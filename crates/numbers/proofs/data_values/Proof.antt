@@ -1,0 +1,16 @@
+-- `numbers::data_values` meets its contract. Each field is one of the data or what its own function ensures.
+-- Assumes nothing.
+use Rattle.numbers.specs.Numbers.{dataValues}
+use borrow.Author.Needs.{needs}
+use Rattle.numbers.proofs.data_values.Statement.{statement}
+use Rattle.numbers.proofs.data_values.Tie as tie
+
+returns : tie.Need-returns
+unfolding dataValues
+returns c = cc
+
+pub data-values-spec : {M : Type 1} → statement M
+data-values-spec =
+    tie.close
+    (tie.spec (λ c κs. search needs) (λ c κs. search needs) (λ c κs. search needs) (λ c κs. search needs)
+    (λ c κs. search needs) returns)
