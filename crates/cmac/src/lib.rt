@@ -30,15 +30,15 @@ fn xored(a: [u8; 16], b: [u8; 16]) -> [u8; 16]
     r
 }
 
-// The sixteen bytes from `at` on.
-fn block_at(bytes: &[u8], at: usize) -> [u8; 16]
+// A block with the sixteen bytes from `at` on, byte by byte.
+fn xored_at(block: [u8; 16], bytes: &[u8], at: usize) -> [u8; 16]
     requires { ⌜ at + 16 ≤ length (now bytes) ⌝ }
-    ensures { λ r. ⌜ r ≡ part at 16 (now (bytes .entry)) ⌝ }
+    ensures { λ r. ⌜ r ≡ xorL block (part at 16 (now (bytes .entry))) ⌝ }
 {
     let mut r = [0u8; 16];
     let mut i: usize = 0;
     while i < 16 {
-        r[i] = bytes[at + i];
+        r[i] = block[i] ^ bytes[at + i];
         i += 1;
     }
     r
@@ -125,8 +125,7 @@ impl Cmac {
                     filled = 1;
                     i += 1;
                 } else {
-                    let block = block_at(part, i);
-                    let open = xored(next, block);
+                    let open = xored_at(next, part, i);
                     chain = open;
                     filled = 16;
                     i += 16;
