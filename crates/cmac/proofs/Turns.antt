@@ -1,5 +1,6 @@
 -- One turn of `update`, whichever arm it takes: what is still to be taken in gives the same. A byte goes into the open
--- block; behind a full block a byte or a whole block goes into the next one, after the full one is enciphered.
+-- block; behind a full block a byte or a whole block goes into the next one, after the full one is enciphered. Then the two
+-- ways in which the last block ends.
 -- Assumes nothing.
 use mathlib.Core.Path.{_≡_, refl, sym, ap, ap₂, _∙_}
 use mathlib.Core.List.{List, [], _∷_, _++_, append-nil, append-assoc}
@@ -14,7 +15,8 @@ use Rattle.base.proofs.Xor.{xorL-nil}
 use Rattle.aes.specs.Fips197.{cipher}
 use Rattle.aes.proofs.Laws.{cipher-long}
 use Rattle.cmac.specs.declared.Cmac.{Cmac}
-use Rattle.cmac.specs.Running.{state, mixed, pushed, absorbed}
+use Rattle.cmac.specs.Rfc4493.{doubled}
+use Rattle.cmac.specs.Running.{state, mixed, pushed, absorbed, ended}
 use Rattle.cmac.proofs.Laws.{mixed-snoc}
 
 push-open : (ks x : List ℕ) (n b : ℕ) → n < 16 → pushed (state ks x n) b ≡ state ks (mixed x n b) (n + 1)
@@ -84,3 +86,11 @@ block-next ks x p n i h k =
     ap₂ absorbed (sym whole) (sym (drop-drop 16 i p))
     ∙ sym (absorb-append (state ks x n) (part i 16 p) (drop 16 (drop i p)))
     ∙ ap (absorbed (state ks x n)) (take-append-drop 16 (drop i p))
+
+-- ---- the last block
+
+pub ended-open : (l x : List ℕ) (n : ℕ) → n < 16 → xorL (mixed x n 0x80) (doubled (doubled l)) ≡ ended l x n
+ended-open l x n h = simp (lt-ltb n 16 h)
+
+pub ended-full : (l x : List ℕ) (n : ℕ) → 16 ≤ n → xorL x (doubled l) ≡ ended l x n
+ended-full l x n h = simp (le-ltb n 16 h)
