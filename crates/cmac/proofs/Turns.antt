@@ -1,6 +1,6 @@
 -- One turn of `update`, whichever arm it takes: what is still to be taken in gives the same. A byte goes into the open
--- block; behind a full block a byte or a whole block goes into the next one, after the full one is enciphered. Then
--- the two ways in which `finish` ends.
+-- block; behind a full block a byte or a whole block goes into the next one, after the full one is enciphered. Then the two
+-- ways in which the last block ends.
 -- Assumes nothing.
 use mathlib.Core.Path.{_≡_, refl, sym, ap, ap₂, _∙_}
 use mathlib.Core.List.{List, [], _∷_, _++_, append-nil, append-assoc}
@@ -15,8 +15,8 @@ use Rattle.base.proofs.Xor.{xorL-nil}
 use Rattle.aes.specs.Fips197.{cipher}
 use Rattle.aes.proofs.Laws.{cipher-long}
 use Rattle.cmac.specs.declared.Cmac.{Cmac}
-use Rattle.cmac.specs.Rfc4493.{zeros, doubled, subkey1, subkey2}
-use Rattle.cmac.specs.Running.{state, mixed, pushed, absorbed, finished}
+use Rattle.cmac.specs.Rfc4493.{doubled}
+use Rattle.cmac.specs.Running.{state, mixed, pushed, absorbed, ended}
 use Rattle.cmac.proofs.Laws.{mixed-snoc}
 
 push-open : (ks x : List ℕ) (n b : ℕ) → n < 16 → pushed (state ks x n) b ≡ state ks (mixed x n b) (n + 1)
@@ -87,16 +87,10 @@ block-next ks x p n i h k =
     ∙ sym (absorb-append (state ks x n) (part i 16 p) (drop 16 (drop i p)))
     ∙ ap (absorbed (state ks x n)) (take-append-drop 16 (drop i p))
 
--- ---- the end
+-- ---- the last block
 
-pub finish-open : (s : Cmac) → s .filled < 16
-    → finished s
-    ≡ cipher (s .schedule)
-    (xorL (mixed (s .chain) (s .filled) 0x80) (doubled (doubled (cipher (s .schedule) zeros))))
-unfolding finished subkey2 subkey1
-finish-open s h = simp (lt-ltb (s .filled) 16 h)
+pub ended-open : (l x : List ℕ) (n : ℕ) → n < 16 → xorL (mixed x n 0x80) (doubled (doubled l)) ≡ ended l x n
+ended-open l x n h = simp (lt-ltb n 16 h)
 
-pub finish-full : (s : Cmac) → 16 ≤ s .filled
-    → finished s ≡ cipher (s .schedule) (xorL (s .chain) (doubled (cipher (s .schedule) zeros)))
-unfolding finished subkey1
-finish-full s h = simp (le-ltb (s .filled) 16 h)
+pub ended-full : (l x : List ℕ) (n : ℕ) → 16 ≤ n → xorL x (doubled l) ≡ ended l x n
+ended-full l x n h = simp (le-ltb n 16 h)

@@ -9,7 +9,7 @@ use lib.Dec.{ltb}
 use Rattle.base.specs.Bytes.{pick, at, _⊕_, xorL}
 use Rattle.aes.specs.Fips197.{cipher}
 use Rattle.cmac.specs.declared.Cmac.{Cmac}
-use Rattle.cmac.specs.Rfc4493.{zeros, subkey1, subkey2}
+use Rattle.cmac.specs.Rfc4493.{zeros, doubled, subkey1, subkey2}
 
 -- a state by its fields
 abbrev pub state : List ℕ → List ℕ → ℕ → Cmac
@@ -48,6 +48,11 @@ absorbedAll s (p ∷ ps) = absorbedAll (absorbed s p) ps
 unfoldable pub joined : List (List ℕ) → List ℕ
 joined [] = []
 joined (p ∷ ps) = p ++ joined ps
+
+-- the last block with its subkey, of l = AES-128(K, 0): an open block gets its one bit and the second subkey, a full one
+-- the first
+abbrev pub ended : List ℕ → List ℕ → ℕ → List ℕ
+ended l x n = pick (ltb n 16) (xorL (mixed x n 0x80) (doubled (doubled l))) (xorL x (doubled l))
 
 -- the tag: an open block gets its one bit and the second subkey, a full one the first
 unfoldable pub finished : Cmac → List ℕ

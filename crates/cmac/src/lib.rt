@@ -6,7 +6,7 @@ ghost use lib.ListN.{length, take};
 ghost use Rattle.base.specs.Bytes.{part, xorL};
 ghost use Rattle.aes.specs.Fips197.{keyExpansion, cipher};
 ghost use Rattle.cmac.specs.Rfc4493.{shifted, doubled, mac};
-ghost use Rattle.cmac.specs.Running.{started, resumed, absorbed, finished};
+ghost use Rattle.cmac.specs.Running.{started, resumed, absorbed, ended, finished};
 ghost use Rattle.cmac.specs.Compared.{sameBytes};
 
 // A tag under way. `chain` already holds the bytes of the open block, `filled` says how many those are. A full block
@@ -30,15 +30,15 @@ fn xored(a: [u8; 16], b: [u8; 16]) -> [u8; 16]
     r
 }
 
-// The sixteen bytes from `at` on.
-fn block_at(bytes: &[u8], at: usize) -> [u8; 16]
+// A block with the sixteen bytes from `at` on, byte by byte.
+fn xored_at(block: [u8; 16], bytes: &[u8], at: usize) -> [u8; 16]
     requires { ⌜ at + 16 ≤ length (now bytes) ⌝ }
-    ensures { λ r. ⌜ r ≡ part at 16 (now (bytes .entry)) ⌝ }
+    ensures { λ r. ⌜ r ≡ xorL block (part at 16 (now (bytes .entry))) ⌝ }
 {
     let mut r = [0u8; 16];
     let mut i: usize = 0;
     while i < 16 {
-        r[i] = bytes[at + i];
+        r[i] = block[i] ^ bytes[at + i];
         i += 1;
     }
     r
@@ -68,6 +68,21 @@ fn double(x: [u8; 16]) -> [u8; 16]
     }
     r[15] = r[15] ^ 0x87;
     r
+}
+
+// Section 2.4, step 4: the chain value with the last block, of which it holds `count` bytes, and with the subkey that
+// goes with it. An open block gets its one bit and the second subkey, a full one the first.
+fn last_block(l: [u8; 16], chain: [u8; 16], count: usize) -> [u8; 16]
+    ensures { λ r. ⌜ r ≡ ended l chain count ⌝ }
+{
+    let k1 = double(l);
+    if count < 16 {
+        let k2 = double(k1);
+        let mut last = chain;
+        last[count] = last[count] ^ 0x80;
+        return xored(last, k2);
+    }
+    xored(chain, k1)
 }
 
 // One step of the chain: what stands after `block`, where `chain` stood before it.
@@ -125,8 +140,7 @@ impl Cmac {
                     filled = 1;
                     i += 1;
                 } else {
-                    let block = block_at(part, i);
-                    let open = xored(next, block);
+                    let open = xored_at(next, part, i);
                     chain = open;
                     filled = 16;
                     i += 16;
@@ -145,19 +159,11 @@ impl Cmac {
         ensures { λ r. ⌜ r ≡ finished self ⌝ }
     {
         let schedule = self.schedule;
-        let mut last = self.chain;
-        let count = self.filled;
+        let chain = self.chain;
         let zero = [0u8; 16];
         let l = aes::encrypt_under(&schedule, zero);
-        let k1 = double(l);
-        if count < 16 {
-            last[count] = last[count] ^ 0x80;
-            let k2 = double(k1);
-            let short = xored(last, k2);
-            return aes::encrypt_under(&schedule, short);
-        }
-        let full = xored(last, k1);
-        aes::encrypt_under(&schedule, full)
+        let last = last_block(l, chain, self.filled);
+        aes::encrypt_under(&schedule, last)
     }
 }
 

@@ -1,33 +1,22 @@
--- `cmac::Cmac::finish` meets its contract, a law for an open block and one for a full block. Assumes nothing.
+-- `cmac::Cmac::finish` meets its contract, by what `encrypt_under` and `last_block` ensure. Assumes nothing.
+use mathlib.Core.Path.{ap, _∙_}
+use mathlib.Core.List.{List}
+use Prim.Native.Nat.{ℕ}
 use borrow.Author.Needs.{needs}
-use Rattle.cmac.proofs.Turns.{finish-open, finish-full}
+use Rattle.aes.specs.Fips197.{cipher}
+use Rattle.cmac.specs.Rfc4493.{subkey1, subkey2}
+use Rattle.cmac.specs.Running.{ended, finished}
 use Rattle.cmac.proofs.Cmac.finish.Statement.{statement}
 use Rattle.cmac.proofs.Cmac.finish.Tie as tie
 
 returns : tie.Need-returns
+unfolding subkey1 subkey2 finished
 returns c =
-    let test = c .before .before .before .before .if1 in
-    let start = c .before .before .before .before .before .before .before .before .before .before in
-    cc (finish-open (start .args .self) (test .taken))
-
-returns-2 : tie.Need-returns-2
-returns-2 c =
-    let test = c .before .before .before .if1 in
-    let start = c .before .before .before .before .before .before .before .before .before in
-    cc (finish-full (start .args .self) (test .left))
+    let self = c .before .before .before .before .before .before .before .args .self in
+    let last =
+    c .before .before .last-block .ensures
+    ∙ ap (λ (l : List ℕ). ended l (self .chain) (self .filled)) (c .before .before .before .encrypt-under .ensures) in
+    c .encrypt-under2 .ensures ∙ ap (cipher (self .schedule)) last
 
 pub finish-spec : {M : Type 1} → statement M
-finish-spec =
-    tie.close
-    (tie.spec
-    (λ c κs. search needs)
-    (λ c κs. search needs)
-    (λ c. search needs)
-    (λ c. search needs)
-    (λ c κs. search needs)
-    (λ c κs. search needs)
-    (λ c κs. search needs)
-    returns
-    (λ c κs. search needs)
-    (λ c κs. search needs)
-    returns-2)
+finish-spec = tie.close (tie.spec (λ c κs. search needs) (λ c κs. search needs) (λ c κs. search needs) returns)

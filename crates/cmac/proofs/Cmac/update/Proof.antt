@@ -1,12 +1,14 @@
 -- `cmac::Cmac::update` meets its contract. The invariant: what is still to be taken in gives the same from where the
 -- state stands; a law for each arm keeps it. Assumes nothing.
-use Prim.Native.Nat.{_≤_, _-_}
+use Prim.Native.Nat.{ℕ, _+_, _≤_, _-_}
 use mathlib.Core.Path.{_≡_, refl, sym, ap, _∙_}
+use mathlib.Core.List.{List}
 use native.Mathlib.Omega.{arith}
 use borrow.Author.Needs.{needs}
 use lib.ListN.{length, drop, length-set, drop-of-length-le}
+use Rattle.base.specs.Bytes.{at, part, xorL}
 use Rattle.aes.proofs.Laws.{cipher-long}
-use Rattle.cmac.specs.Running.{state, absorbed}
+use Rattle.cmac.specs.Running.{state, mixed, absorbed}
 use Rattle.cmac.proofs.Turns.{byte-open, byte-next, block-next}
 use Rattle.cmac.proofs.Cmac.update.Statement.{statement}
 use Rattle.cmac.proofs.Cmac.update.Tie as tie
@@ -36,25 +38,30 @@ loop-again-2 : tie.Need-loop-again-2 Inv-loop μ-loop
 loop-again-2 c =
     let l = c .before .before .before .before .before .before .loop in
     let a = c .before .before .before .before .before .before .before .before .before .before .args in
+    let ks = a .self .schedule in
+    let p = a .part .now in
     let next = c .before .before .encrypt-under in (
       search needs,
-      length-set (next .result) 0 _ ∙ ap length (next .ensures) ∙ cipher-long (a .self .schedule) (l .chain),
-      cc
-          (byte-next (a .self .schedule) (l .chain) (a .part .now) (l .filled) (l .i)
-          (c .before .before .before .before .if1 .left)
-          (c .before .before .before .before .before .loop-test .taken)),
+      length-set (next .result) 0 _ ∙ ap length (next .ensures) ∙ cipher-long ks (l .chain),
+      ap (λ (x : List ℕ). absorbed (state ks (mixed x 0 (at p (l .i))) 1) (drop (l .i + 1) p)) (next .ensures)
+          ∙ byte-next ks (l .chain) p (l .filled) (l .i) (c .before .before .before .before .if1 .left)
+          (c .before .before .before .before .before .loop-test .taken)
+          ∙ l .inv .2,
     )
 
 loop-again-3 : tie.Need-loop-again-3 Inv-loop μ-loop
 loop-again-3 c =
-    let l = c .before .before .before .before .before .before .before .loop in
-    let a = c .before .before .before .before .before .before .before .before .before .before .before .args in (
+    let l = c .before .before .before .before .before .before .loop in
+    let a = c .before .before .before .before .before .before .before .before .before .before .args in
+    let ks = a .self .schedule in
+    let p = a .part .now in
+    let opened =
+    c .xored-at .ensures ∙ ap (λ (x : List ℕ). xorL x (part (l .i) 16 p)) (c .before .before .encrypt-under .ensures) in (
       search needs,
       search needs,
-      cc
-          (block-next (a .self .schedule) (l .chain) (a .part .now) (l .filled) (l .i)
-          (c .before .before .before .before .before .if1 .left)
-          (omega arith)),
+      ap (λ (x : List ℕ). absorbed (state ks x 16) (drop (l .i + 16) p)) opened
+          ∙ block-next ks (l .chain) p (l .filled) (l .i) (c .before .before .before .before .if1 .left) (omega arith)
+          ∙ l .inv .2,
     )
 
 returns : tie.Need-returns Inv-loop μ-loop
@@ -87,7 +94,6 @@ update-spec =
     (λ c. search needs)
     (λ c. search needs)
     loop-again-2
-    (λ c κs. search needs)
     (λ c κs. search needs)
     (λ c. search needs)
     (λ c. search needs)
