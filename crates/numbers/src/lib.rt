@@ -36,7 +36,7 @@ pub fn number_of(reading: Reading) -> u8
         Reading::JoinRequest => 0,
         Reading::JoinAccept(_) => 0,
         Reading::Data(_) => 0,
-        Reading::Refused(n, _) => n,
+        Reading::Refused(number, _) => number,
     }
 }
 
@@ -48,7 +48,7 @@ pub fn place_of(reading: Reading) -> usize
         Reading::JoinRequest => 0,
         Reading::JoinAccept(_) => 0,
         Reading::Data(_) => 0,
-        Reading::Refused(_, p) => p,
+        Reading::Refused(_, place) => place,
     }
 }
 
@@ -61,7 +61,7 @@ pub fn other_number(reading: Reading) -> u8
         Reading::JoinRequest => INVALID_DATA,
         Reading::JoinAccept(_) => INVALID_DATA,
         Reading::Data(_) => INVALID_DATA,
-        Reading::Refused(n, _) => n,
+        Reading::Refused(own, _) => own,
     }
 }
 

@@ -21,7 +21,6 @@ use Rattle.view.specs.Parts.{seen}
 use Rattle.view.specs.Viewed.{viewOf, partOf}
 use Rattle.view.specs.declared.parts.Field.{Field}
 use Rattle.view.specs.declared.parts.Field.the-variants.{DevAddr, FOpts, Payload, AppEui, DevEui, DevNonce, Mic}
-use Rattle.view.proofs.frame_numbers.read_numbers.Reads as read-numbers
 use Rattle.view.proofs.parts.place_of.Reads as place-of
 use Rattle.view.proofs.parts.piece.Reads as piece
 use Rattle.view.proofs.parts.shown.Reads as shown
@@ -38,9 +37,6 @@ use Rattle.view.proofs.View.dev_nonce as dev-nonce
 use Rattle.view.proofs.View.mic as mic
 
 -- ---- calls on plain slices and numbers
-
-pub read-numbers-determined : Determined read-numbers.Learnt
-read-numbers-determined κs a x y s t p q = p ∙ sym q
 
 pub place-of-determined : Determined place-of.Learnt
 place-of-determined κs a x y s t p q = p ∙ sym q

@@ -9,25 +9,24 @@ use native.Mathlib.Omega.{arith}
 use lib.Dec.{ltb, eqb}
 use lib.ListN.{length, drop, length-drop}
 use lib.Seq.{take-all}
-use borrow.Author.Tests.{lt-ltb, le-ltb, ne-eqb}
+use borrow.Author.Tests.{lt-ltb, le-ltb}
 use Rattle.base.specs.Bytes.{pick, at, part}
 use Rattle.base.proofs.Cases.{by-bool, by-order}
-use Rattle.frame.specs.Layout.{mtype, fhdrLength, hasPort, fport, headerEnd, payloadStart, payloadEnd}
+use Rattle.frame.specs.Layout.{fhdrLength, hasPort, fport, headerEnd, payloadStart, payloadEnd}
 use Rattle.frame.specs.Reading.{portOf, payloadOf, dataOf, readOf}
-use Rattle.numbers.specs.Numbers.{portGiven, portNumber, payloadKind, payloadFrom, payloadTo}
-use Rattle.frame.specs.Conditions.{IsData, Gives, of12, of1, of2, of3, of4}
+use Rattle.numbers.specs.Numbers.{portGiven, portNumber, payloadKind, payloadFrom, payloadTo, plainValues, dataValues, valuesOf}
+use Rattle.frame.specs.Conditions.{IsData}
 use Rattle.frame.specs.declared.parser.FrmPayload.{FrmPayload}
 use Rattle.frame.specs.declared.parser.FrmPayload.the-variants.{Nothing, Data as PlainData, MacCommands}
 use Rattle.frame.specs.declared.parser.DataFrame.{DataFrame}
 use Rattle.frame.specs.declared.parser.Reading.{Reading}
 use Rattle.frame.specs.declared.parser.Reading.the-variants.{JoinRequest, JoinAccept, Data, Refused}
 use Rattle.frame.proofs.ReadingLaws.{Says, answers}
-use Rattle.view.specs.Numbers.{bareNumbers, dataNumbers, numbersOf, noPayload, layoutNumbers}
-use Rattle.view.specs.Parts.{nowhere, dataPlace, placeOf, pieceOf, shownOf}
+use Rattle.view.specs.Numbers.{noPayload, layoutValues}
+use Rattle.view.specs.Parts.{dataPlace, placeOf, pieceOf, shownOf}
 use Rattle.view.specs.Fields.{noField, dataField, joinField, fieldIn, fieldOf}
 use Rattle.view.specs.declared.parts.Field.{Field}
 use Rattle.view.specs.declared.parts.Field.the-variants.{DevAddr, FOpts, Payload, AppEui, DevEui, DevNonce, Mic}
-use Rattle.view.specs.declared.parts.Place.{Place}
 
 -- ---- a piece
 
@@ -81,14 +80,14 @@ module _ (f : List ℕ) where
   port-is = by-bool (hasPort f) (λ e. rw e) (λ e. rw e)
 
   -- the numbers of a data frame are those of the layout
-  pub data-numbers : dataNumbers (dataOf f) ≡ layoutNumbers f
-  unfolding dataOf
-  data-numbers = cc (port-is-given, port-is, of-payload payloadKind, payload-start, payload-end)
+  pub data-values : dataValues (dataOf f) ≡ layoutValues f
+  unfolding dataOf dataValues
+  data-values = cc (port-is-given, port-is, of-payload payloadKind, payload-start, payload-end)
 
 -- ---- the fields
 
-join-field : (f : List ℕ) → length f ≡ 23 → (field : Field) → shownOf f (bareNumbers 0 0 19) field ≡ joinField f field
-unfolding placeOf
+join-field : (f : List ℕ) → length f ≡ 23 → (field : Field) → shownOf f (plainValues 1 0 0 0) field ≡ joinField f field
+unfolding placeOf plainValues
 join-field f e DevAddr = piece-nowhere f
 join-field f e FOpts = piece-nowhere f
 join-field f e Payload = piece-nowhere f
@@ -98,13 +97,11 @@ join-field f e DevNonce = piece-within f 17 19 (omega arith) (omega arith)
 join-field f e Mic = piece-rest f 19 (omega arith) ∙ ap (λ (n : ℕ). (19, drop (n - 4) f)) (sym e)
 
 module _ (f : List ℕ) (h : IsData f) where
-  -- the type is one of a data frame
-  in-place : (field : Field) → shownOf f (dataNumbers (dataOf f)) field
-      ≡ pieceOf f (dataPlace (dataNumbers (dataOf f)) (length f) field .start) (dataPlace (dataNumbers (dataOf f)) (length f) field .end)
-  unfolding placeOf dataOf
-  in-place field =
-      ap (λ (p : Place). pieceOf f (p .start) (p .end))
-      (simp (ne-eqb (mtype f) 0 (λ e. omega (arith, h .from)), ne-eqb (mtype f) 1 (λ e. omega (arith, h .from))))
+  -- the kind is that of a data frame
+  in-place : (field : Field) → shownOf f (dataValues (dataOf f)) field
+      ≡ pieceOf f (dataPlace (dataValues (dataOf f)) (length f) field .start) (dataPlace (dataValues (dataOf f)) (length f) field .end)
+  unfolding placeOf dataValues
+  in-place field = refl
 
   payload-piece : pieceOf f (payloadFrom (payloadOf f)) (payloadTo (payloadOf f)) ≡ dataField f Payload
   payload-piece =
@@ -117,8 +114,8 @@ module _ (f : List ℕ) (h : IsData f) where
       let none : ltb (length f) (fhdrLength f + 6) ≡ true = lt-ltb (length f) (fhdrLength f + 6) k in
       rw (payload-start f, payload-end f, none) (piece-nowhere f))
 
-  data-field : (field : Field) → shownOf f (dataNumbers (dataOf f)) field ≡ dataField f field
-  unfolding dataOf
+  data-field : (field : Field) → shownOf f (dataValues (dataOf f)) field ≡ dataField f field
+  unfolding dataOf dataValues
   data-field DevAddr = in-place DevAddr ∙ piece-within f 1 5 (omega arith) (omega (arith, h .least))
   data-field FOpts =
       let long : 1 + fhdrLength f - 8 ≡ at f 5 % 16 = omega arith in
@@ -129,31 +126,21 @@ module _ (f : List ℕ) (h : IsData f) where
   data-field DevNonce = in-place DevNonce ∙ piece-nowhere f
   data-field Mic = in-place Mic ∙ piece-rest f (length f - 4) (omega arith)
 
--- a number that is a refusal's is not 0
-not-zero : (f : List ℕ) (n : ℕ) → Gives f n → n ≡ 0 → ⊥
-not-zero f n (of12 e g) z = omega arith
-not-zero f n (of1 e g) z = omega arith
-not-zero f n (of2 e g) z = omega arith
-not-zero f n (of3 e g) z = omega arith
-not-zero f n (of4 e g) z = omega arith
+accept-field : (f : List ℕ) (n : ℕ) (field : Field) → shownOf f (plainValues 2 0 0 n) field ≡ noField
+unfolding placeOf plainValues
+accept-field f n field = piece-nowhere f
 
-refused-field : (f : List ℕ) (n : ℕ) → Gives f n → (field : Field) → shownOf f (bareNumbers n 0 0) field ≡ noField
-unfolding placeOf
-refused-field f n g field =
-    let place : placeOf (bareNumbers n 0 0) (length f) field ≡ nowhere = simp (ne-eqb n 0 (not-zero f n g)) in
-    ap (λ (p : Place). pieceOf f (p .start) (p .end)) place ∙ piece-nowhere f
-
-accept-field : (f : List ℕ) (field : Field) → shownOf f (bareNumbers 0 1 0) field ≡ noField
-unfolding placeOf
-accept-field f field = piece-nowhere f
+refused-field : (f : List ℕ) (n p : ℕ) (field : Field) → shownOf f (plainValues 0 n p 0) field ≡ noField
+unfolding placeOf plainValues
+refused-field f n p field = piece-nowhere f
 
 -- by what an answer says of the frame
-by-answer : (f : List ℕ) (r : Reading) → Says f r → (field : Field) → shownOf f (numbersOf r) field ≡ fieldIn r f field
+by-answer : (f : List ℕ) (r : Reading) → Says f r → (field : Field) → shownOf f (valuesOf r) field ≡ fieldIn r f field
 by-answer f JoinRequest h field = join-field f (h .long) field
-by-answer f (JoinAccept n) h field = accept-field f field
-by-answer f (Data d) h field = ap (λ (x : DataFrame). shownOf f (dataNumbers x) field) (h .1) ∙ data-field f (h .0) field
-by-answer f (Refused n p) h field = refused-field f n (h .0) field
+by-answer f (JoinAccept n) h field = accept-field f n field
+by-answer f (Data d) h field = ap (λ (x : DataFrame). shownOf f (dataValues x) field) (h .1) ∙ data-field f (h .0) field
+by-answer f (Refused n p) h field = refused-field f n p field
 
 -- every field of every frame
-pub shows : (f : List ℕ) (field : Field) → shownOf f (numbersOf (readOf f)) field ≡ fieldOf f field
+pub shows : (f : List ℕ) (field : Field) → shownOf f (valuesOf (readOf f)) field ≡ fieldOf f field
 shows f field = by-answer f (readOf f) (answers f) field

@@ -15,13 +15,14 @@ use Rattle.frame.specs.Conditions.{IsJoinRequest, IsJoinAccept, IsData}
 use Rattle.frame.specs.declared.parser.Reading.{Reading}
 use Rattle.frame.specs.declared.parser.Reading.the-variants.{Refused}
 use Rattle.frame.proofs.ReadingLaws.{reads-request, reads-accept, reads-data}
-use Rattle.view.specs.Numbers.{bareNumbers, numbersOf, noPayload, layoutNumbers}
+use Rattle.numbers.specs.Numbers.{plainValues, valuesOf}
+use Rattle.view.specs.Numbers.{noPayload, layoutValues}
 use Rattle.view.specs.Parts.{within}
 use Rattle.view.specs.Fields.{fopts, noField, dataField, joinField, fieldIn, fieldOf}
 use Rattle.view.specs.Viewed.{viewOf, partOf}
 use Rattle.view.specs.declared.parts.Field.{Field}
 use Rattle.view.specs.declared.parts.Field.the-variants.{DevAddr, FOpts, Payload, Mic}
-use Rattle.view.proofs.Fields.{shows, data-numbers}
+use Rattle.view.proofs.Fields.{shows, data-values}
 
 -- a part of a view is that field of the frame
 pub shown-field : (x : RefT (List ℕ)) (field : Field) → partOf (viewOf x) field ≡ within x (fieldOf (now x) field)
@@ -44,8 +45,8 @@ payload-bytes f h =
 -- ---- a data frame
 
 module _ (x : RefT (List ℕ)) (h : IsData (now x)) where
-  pub data-holds : viewOf x .numbers ≡ layoutNumbers (now x)
-  data-holds = ap numbersOf (reads-data (now x) h) ∙ data-numbers (now x)
+  pub data-holds : viewOf x .numbers ≡ layoutValues (now x)
+  data-holds = ap valuesOf (reads-data (now x) h) ∙ data-values (now x)
 
   pub data-shows : (field : Field) → partOf (viewOf x) field ≡ within x (dataField (now x) field)
   data-shows field = by-reading x (reads-data (now x) h) field
@@ -64,17 +65,20 @@ module _ (x : RefT (List ℕ)) (h : IsData (now x)) where
 
 -- ---- the others
 
-pub request-holds : (x : RefT (List ℕ)) → IsJoinRequest (now x) → viewOf x .numbers ≡ bareNumbers 0 0 19
-request-holds x h = ap numbersOf (reads-request (now x) h)
+pub request-holds : (x : RefT (List ℕ)) → IsJoinRequest (now x) → viewOf x .numbers ≡ plainValues 1 0 0 0
+request-holds x h = ap valuesOf (reads-request (now x) h)
 
 pub request-shows : (x : RefT (List ℕ)) → IsJoinRequest (now x) → (field : Field) → partOf (viewOf x) field ≡ within x (joinField (now x) field)
 request-shows x h field = by-reading x (reads-request (now x) h) field
 
+pub accept-holds : (x : RefT (List ℕ)) (n : ℕ) → IsJoinAccept (now x) n → viewOf x .numbers ≡ plainValues 2 0 0 n
+accept-holds x n h = ap valuesOf (reads-accept (now x) n h)
+
 pub accept-shows : (x : RefT (List ℕ)) (n : ℕ) → IsJoinAccept (now x) n → (field : Field) → partOf (viewOf x) field ≡ within x noField
 accept-shows x n h field = by-reading x (reads-accept (now x) n h) field
 
-pub refused-holds : (x : RefT (List ℕ)) {n p : ℕ} → readOf (now x) ≡ Refused n p → viewOf x .numbers ≡ bareNumbers n 0 0
-refused-holds x e = ap numbersOf e
+pub refused-holds : (x : RefT (List ℕ)) {n p : ℕ} → readOf (now x) ≡ Refused n p → viewOf x .numbers ≡ plainValues 0 n p 0
+refused-holds x e = ap valuesOf e
 
 pub refused-shows : (x : RefT (List ℕ)) {n p : ℕ} → readOf (now x) ≡ Refused n p → (field : Field) → partOf (viewOf x) field ≡ within x noField
 refused-shows x e field = by-reading x e field

@@ -7,7 +7,7 @@ use lib.Dec.{ltb, eqb}
 use lib.ListN.{length}
 use denote.Ref.{RefT}
 use Rattle.base.specs.Bytes.{pick, part}
-use Rattle.view.specs.declared.frame_numbers.Numbers.{Numbers}
+use Rattle.numbers.specs.declared.Values.{Values}
 use Rattle.view.specs.declared.parts.Field.{Field}
 use Rattle.view.specs.declared.parts.Field.the-variants.{DevAddr, FOpts, Payload, AppEui, DevEui, DevNonce, Mic}
 use Rattle.view.specs.declared.parts.Place.{Place}
@@ -19,32 +19,29 @@ between s e = record { start = s; end = e }
 abbrev pub nowhere : Place
 nowhere = between 0 0
 
--- 6.2.4 of a join-request whose MIC begins at mic: AppEUI, DevEUI, DevNonce, and the MIC to the end
-abbrev pub joinPlace : ℕ → ℕ → Field → Place
-joinPlace mic n DevAddr = nowhere
-joinPlace mic n FOpts = nowhere
-joinPlace mic n Payload = nowhere
-joinPlace mic n AppEui = between 1 9
-joinPlace mic n DevEui = between 9 17
-joinPlace mic n DevNonce = between 17 19
-joinPlace mic n Mic = between mic n
+-- 6.2.4 of a join-request of n bytes: AppEUI, DevEUI, DevNonce, and the MIC to the end
+abbrev pub joinPlace : ℕ → Field → Place
+joinPlace n DevAddr = nowhere
+joinPlace n FOpts = nowhere
+joinPlace n Payload = nowhere
+joinPlace n AppEui = between 1 9
+joinPlace n DevEui = between 9 17
+joinPlace n DevNonce = between 17 19
+joinPlace n Mic = between 19 n
 
 -- 4.3 and 4.4 of a data frame of n bytes: DevAddr, FOpts from 8 on, the payload, and the MIC to the end
-abbrev pub dataPlace : Numbers → ℕ → Field → Place
+abbrev pub dataPlace : Values → ℕ → Field → Place
 dataPlace v n DevAddr = between 1 5
 dataPlace v n FOpts = between 8 (v .«fopts_end»)
-dataPlace v n Payload = between (v .«payload_start») (v .«payload_end»)
+dataPlace v n Payload = between (v .«payload_from») (v .«payload_to»)
 dataPlace v n AppEui = nowhere
 dataPlace v n DevEui = nowhere
 dataPlace v n DevNonce = nowhere
 dataPlace v n Mic = between (v .mic) n
 
--- by the type of an accepted frame: 0 a join-request, 1 a join-accept, which is encrypted and shows nothing, else data
-unfoldable pub placeOf : Numbers → ℕ → Field → Place
-placeOf v n field =
-    pick (eqb (v .refusal) 0)
-    (pick (eqb (v .mtype) 0) (joinPlace (v .mic) n field) (pick (eqb (v .mtype) 1) nowhere (dataPlace v n field)))
-    nowhere
+-- by the kind: 1 a join-request, 3 data; a join-accept is encrypted and shows nothing, and so does a refused frame
+unfoldable pub placeOf : Values → ℕ → Field → Place
+placeOf v n field = pick (eqb (v .kind) 1) (joinPlace n field) (pick (eqb (v .kind) 3) (dataPlace v n field) nowhere)
 
 -- the stretch of f from start up to end: where it begins, and its bytes; the empty one at 0 where these do not lie within f
 unfoldable pub pieceOf : List ℕ → ℕ → ℕ → ℕ × List ℕ
@@ -52,7 +49,7 @@ pieceOf f start end =
     pick (ltb end start) (0, []) (pick (ltb (length f) end) (0, []) (start, part start (end - start) f))
 
 -- the field of a frame f by the numbers v, whoever made them
-abbrev pub shownOf : List ℕ → Numbers → Field → ℕ × List ℕ
+abbrev pub shownOf : List ℕ → Values → Field → ℕ × List ℕ
 shownOf f v field = pieceOf f (placeOf v (length f) field .start) (placeOf v (length f) field .end)
 
 -- ---- in memory

@@ -1,20 +1,29 @@
 // A view of a frame: the caller's bytes with the place of each field in them. A part that is shown is that part of the
 // caller's own slice; nothing is copied.
-pub mod frame_numbers;
 pub mod parts;
 
-use frame_numbers::Numbers;
-use frame_numbers::read_numbers;
+use frame::parser::read;
+use numbers::Values;
+use numbers::values_of;
 use parts::Field;
 use parts::shown;
 ghost use mathlib.Core.Path.{_≡_};
+ghost use Rattle.frame.specs.Reading.{readOf};
+ghost use Rattle.numbers.specs.Numbers.{valuesOf};
 ghost use Rattle.view.specs.Fields.{fieldOf};
 ghost use Rattle.view.specs.Parts.{seen, within};
 ghost use Rattle.view.specs.Viewed.{viewOf, partOf};
 
 pub struct View<'a> {
     pub bytes: &'a [u8],
-    pub numbers: Numbers,
+    pub numbers: Values,
+}
+
+// What a frame says in numbers, and where its parts lie.
+fn numbers_of(frame: &[u8]) -> Values
+    ensures { λ r. ⌜ r ≡ valuesOf (readOf (now (frame .entry))) ⌝ }
+{
+    values_of(read(frame))
 }
 
 impl<'a> View<'a> {
@@ -22,7 +31,7 @@ impl<'a> View<'a> {
     pub fn of(frame: &'a [u8]) -> View<'a>
         ensures { λ r. ⌜ r ≡ viewOf (frame .entry) ⌝ }
     {
-        let found = read_numbers(frame);
+        let found = numbers_of(frame);
         View {
             bytes: frame,
             numbers: found,

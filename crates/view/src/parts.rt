@@ -1,6 +1,6 @@
 // The parts of a frame as parts of the caller's slice. Each function is total: what does not lie within the slice, or is
 // no part of a frame of that type, is shown as the empty part.
-use crate::frame_numbers::Numbers;
+use numbers::Values;
 ghost use mathlib.Core.Path.{_≡_};
 ghost use Rattle.view.specs.Parts.{joinPlace, dataPlace, placeOf, pieceOf, shownOf, seen, within};
 
@@ -21,9 +21,9 @@ pub struct Place {
     pub end: usize,
 }
 
-// In a join-request whose MIC lies from mic up to length.
-fn join_place(mic: usize, length: usize, field: Field) -> Place
-    ensures { λ r. ⌜ r ≡ joinPlace mic length field ⌝ }
+// In a join-request of that length.
+fn join_place(length: usize, field: Field) -> Place
+    ensures { λ r. ⌜ r ≡ joinPlace length field ⌝ }
 {
     match field {
         Field::DevAddr => Place { start: 0, end: 0 },
@@ -33,14 +33,14 @@ fn join_place(mic: usize, length: usize, field: Field) -> Place
         Field::DevEui => Place { start: 9, end: 17 },
         Field::DevNonce => Place { start: 17, end: 19 },
         Field::Mic => Place {
-            start: mic,
+            start: 19,
             end: length,
         },
     }
 }
 
 // In a data frame of those numbers and that length.
-fn data_place(numbers: Numbers, length: usize, field: Field) -> Place
+fn data_place(numbers: Values, length: usize, field: Field) -> Place
     ensures { λ r. ⌜ r ≡ dataPlace numbers length field ⌝ }
 {
     match field {
@@ -50,8 +50,8 @@ fn data_place(numbers: Numbers, length: usize, field: Field) -> Place
             end: numbers.fopts_end,
         },
         Field::Payload => Place {
-            start: numbers.payload_start,
-            end: numbers.payload_end,
+            start: numbers.payload_from,
+            end: numbers.payload_to,
         },
         Field::AppEui => Place { start: 0, end: 0 },
         Field::DevEui => Place { start: 0, end: 0 },
@@ -65,19 +65,16 @@ fn data_place(numbers: Numbers, length: usize, field: Field) -> Place
 
 // Where a field lies in a frame of those numbers and that length; 0 and 0 where the frame has none. A join-accept is
 // encrypted, and shows none.
-pub fn place_of(numbers: Numbers, length: usize, field: Field) -> Place
+pub fn place_of(numbers: Values, length: usize, field: Field) -> Place
     ensures { λ r. ⌜ r ≡ placeOf numbers length field ⌝ }
 {
-    if numbers.refusal != 0 {
-        return Place { start: 0, end: 0 };
+    if numbers.kind == 1 {
+        return join_place(length, field);
     }
-    if numbers.mtype == 0 {
-        return join_place(numbers.mic, length, field);
+    if numbers.kind == 3 {
+        return data_place(numbers, length, field);
     }
-    if numbers.mtype == 1 {
-        return Place { start: 0, end: 0 };
-    }
-    data_place(numbers, length, field)
+    Place { start: 0, end: 0 }
 }
 
 // The bytes from start up to end.
@@ -94,7 +91,7 @@ pub fn piece(bytes: &[u8], start: usize, end: usize) -> &[u8]
 }
 
 // The field as a part of the bytes, by the numbers that go with them.
-pub fn shown(bytes: &[u8], numbers: Numbers, field: Field) -> &[u8]
+pub fn shown(bytes: &[u8], numbers: Values, field: Field) -> &[u8]
     ensures { λ r. ⌜ seen r ≡ within (bytes .entry) (shownOf (now (bytes .entry)) numbers field) ⌝ }
 {
     let place = place_of(numbers, bytes.len(), field);

@@ -7,7 +7,16 @@ use Rattle.joining.proofs.accept_fields.Tie as tie
 
 returns : tie.Need-returns
 unfolding acceptFields
-returns c = cc
+returns c =
+    let b = c .before .before in
+    rw (
+      b .before .before .before .before .before .three-at .ensures,
+      b .before .before .before .before .three-at2 .ensures,
+      b .before .before .before .four-at .ensures,
+      b .before .before .cf-list .ensures,
+      b .before .frequencies .ensures,
+      b .masks .ensures,
+    )
 
 pub accept-fields-spec : {M : Type 1} → statement M
 accept-fields-spec =

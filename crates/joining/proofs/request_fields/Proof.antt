@@ -7,7 +7,13 @@ use Rattle.joining.proofs.request_fields.Tie as tie
 
 returns : tie.Need-returns
 unfolding requestFields
-returns c = cc
+returns c =
+    rw (
+      c .before .before .before .eight-at .ensures,
+      c .before .before .eight-at2 .ensures,
+      c .before .two-at .ensures,
+      c .four-at .ensures,
+    )
 
 pub request-fields-spec : {M : Type 1} → statement M
 request-fields-spec =

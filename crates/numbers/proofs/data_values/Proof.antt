@@ -7,7 +7,14 @@ use Rattle.numbers.proofs.data_values.Tie as tie
 
 returns : tie.Need-returns
 unfolding dataValues
-returns c = cc
+returns c =
+    rw (
+      c .before .before .before .before .port-given .ensures,
+      c .before .before .before .port-number .ensures,
+      c .before .before .payload-kind .ensures,
+      c .before .payload-from .ensures,
+      c .payload-to .ensures,
+    )
 
 pub data-values-spec : {M : Type 1} → statement M
 data-values-spec =

@@ -2,9 +2,8 @@
 -- Assumes nothing.
 use mathlib.Core.Path.{sym}
 use native.Mathlib.Omega.{arith}
-use Rattle.frame.proofs.ReadingSteps.{data-right, data-wrong}
-use denote.Ref.{now}
 use Rattle.frame.specs.Reading.{dataOf}
+use Rattle.frame.proofs.ReadingSteps.{data-right, data-wrong}
 use borrow.Author.Needs.{needs}
 use Rattle.frame.proofs.parser.read_data.Statement.{statement}
 use Rattle.frame.proofs.parser.read_data.Tie as tie
@@ -15,7 +14,15 @@ returns c = sym (data-wrong _ (omega arith))
 returns-2 : tie.Need-returns-2
 unfolding dataOf
 returns-2 c =
-    cc (data-right (now (c .before .before .before .before .before .before .before .before .before .before .before .before .args .frame)) (omega arith))
+    let b = c .before .before .before .before .before .before in
+    rw (
+      c .before .message-type .ensures,
+      c .before .before .before .read-fcnt .ensures,
+      b .before .before .before .fhdr-length .ensures,
+      b .before .read-port .ensures,
+      b .read-payload .ensures,
+    )
+    (sym (data-right _ (omega arith)))
 
 pub read-data-spec : {M : Type 1} → statement M
 read-data-spec =

@@ -1,4 +1,4 @@
--- `view::View::of` meets its contract, by a walk of its code: `read_numbers` is called on the slice, and what it gives is put
+-- `view::View::of` meets its contract, by a walk of its code: `numbers_of` is called on the slice, and what it gives is put
 -- beside the slice. A shared slice can be had twice, so one copy of it goes into the view and one is left at the end.
 -- Assumes nothing.
 use mathlib.Core.Path.{_≡_, refl, ap, subst}
@@ -39,17 +39,17 @@ use denote.Triple.Walked.{says, Stays, stay-none-slice, walkOf, goes-none-slice,
 use denote.Triple.Clauses.{ensured, lasts}
 use denote.Exit.{yes}
 use Rattle.frame.specs.Reading.{readOf}
-use Rattle.view.specs.Numbers.{numbersOf}
+use Rattle.numbers.specs.Numbers.{valuesOf}
+use Rattle.numbers.specs.declared.Values.{Values}
+use Rattle.numbers.proofs.Values as N
+use Rattle.numbers.proofs.Values.Laws as N′
 use Rattle.view.specs.declared.View.{View}
-use Rattle.view.specs.declared.frame_numbers.Numbers.{Numbers}
 use Rattle.view.proofs.View as T
 use Rattle.view.proofs.View.Laws as T′
-use Rattle.view.proofs.frame_numbers.Numbers as N
-use Rattle.view.proofs.frame_numbers.Numbers.Laws as N′
-use Rattle.view.proofs.frame_numbers.read_numbers as reading
-use Rattle.view.proofs.frame_numbers.read_numbers.Symbol as reading-def
-use Rattle.view.proofs.frame_numbers.read_numbers.Symbol.{name as #view·read-numbers}
-use Rattle.view.proofs.frame_numbers.read_numbers.Met as reading-thm
+use Rattle.view.proofs.numbers_of as reading
+use Rattle.view.proofs.numbers_of.Symbol as reading-def
+use Rattle.view.proofs.numbers_of.Symbol.{name as #view·numbers-of}
+use Rattle.view.proofs.numbers_of.Met as reading-thm
 use Rattle.view.proofs.View.of.Key.{name as #view·of}
 use Rattle.view.proofs.View.of as made
 use Rattle.view.proofs.View.of.Statement as stated
@@ -58,12 +58,12 @@ use Rattle.view.proofs.View.of.Code as code
 abbrev stayed : Stays (made.ended .signature .params) (made.ended .kept)
 stayed = (stay-none-slice (0 ∷ []) tt (plain (λ _. u8)) yes, tt)
 
--- what is known of `read_numbers`: that it meets its contract
+-- what is known of `numbers_of`: that it meets its contract
 abbrev Read : {M : Type 1} (𝓤 : URA M) (H : Heap 𝓤) (A : Atoms 𝓤) (mem : Memory → SProp 𝓤) (run : Routine → Fun 𝓤) → Contract 𝓤
 Read 𝓤 H A mem run = tripleOf 𝓤 H A reading.signature (reading.spec 𝓤 H A mem run)
 
--- a value of `Numbers` has one machine value, its fields in order
-module _ (r : Numbers) (u : Val) (is : Is N.the-row r (u ∷ [])) where
+-- a value of `Values` has one machine value, its fields in order
+module _ (r : Values) (u : Val) (is : Is N.the-row r (u ∷ [])) where
   spelled : u ≡ N′.lowered r
   spelled = ap only (LL.tells N.the-type N′.the-laws r (u ∷ []) is)
 
@@ -78,10 +78,10 @@ module _ {M : Type 1} (𝓤 : URA M) (H : Heap 𝓤) (A : Atoms 𝓤) (W : Given
   abbrev v : Val
   v = sliceVal (s .ptr) (length (s .now))
 
-  abbrev found : Numbers
-  found = numbersOf (readOf (now s))
+  abbrev found : Values
+  found = valuesOf (readOf (now s))
 
-  abbrev beside : Numbers → View
+  abbrev beside : Values → View
   beside r = record { bytes = s; numbers = r }
 
   abbrev Post : Val → SProp 𝓤
@@ -103,11 +103,11 @@ module _ {M : Type 1} (𝓤 : URA M) (H : Heap 𝓤) (A : Atoms 𝓤) (W : Given
       (qed W ((‵ (flft κ q) ⊛ ‵ ftrue) ∷ ‵ (owns (ShrSlice (named 0) κ u8 ∷ []) (s, tt) (v ∷ [], tt)) ∷ []) ∵ join ! $ frame ! $ done !) $
       frame ! $ done !
 
-  said : (r : Numbers) → ent 𝓤 (ensured 𝓤 H A reading.ended (reading.clauses 𝓤 H A mem run) (κ, tt) (s, tt) tt r) (fact 𝓤 (r ≡ found))
+  said : (r : Values) → ent 𝓤 (ensured 𝓤 H A reading.ended (reading.clauses 𝓤 H A mem run) (κ, tt) (s, tt) tt r) (fact 𝓤 (r ≡ found))
   said r = exE 𝓤 _ (λ ws. snd∗ 𝓤 (sem 𝓤 H A (lasts reading.ended (κ, tt) (s, tt) ws)) (fact 𝓤 (r ≡ found)))
 
   -- at the end the slice is had twice: for the parameter, and inside the view with the numbers' facts
-  exits : (r : Numbers) → Is N.the-row r (N′.lowered r ∷ []) → r ≡ found → ent 𝓤 (⋆ 𝓤 H A ((‵ (flft κ q) ⊛ ‵ ftrue) ∷ ‵ Own ∷ [])) (Post (T′.lowered (beside r)))
+  exits : (r : Values) → Is N.the-row r (N′.lowered r ∷ []) → r ≡ found → ent 𝓤 (⋆ 𝓤 H A ((‵ (flft κ q) ⊛ ‵ ftrue) ∷ ‵ Own ∷ [])) (Post (T′.lowered (beside r)))
   exits r is e =
       qed W ((‵ (flft κ q) ⊛ ‵ ftrue) ∷ ‵ Own ∷ []) ∵
       suffices ! _ (ends-at 𝓤 H A made.ended stayed (made.clauses 𝓤 H A mem run) W to (T′.lowered (beside r)) (beside r) (tt, tt) (tt, tt)) $ says ! (ap beside e) $
@@ -116,7 +116,7 @@ module _ {M : Type 1} (𝓤 : URA M) (H : Heap 𝓤) (A : Atoms 𝓤) (W : Given
       nothing ! $ owned ! N.the-row (Is N.the-row) (LL.makes N.the-type N′.the-plain 𝓤 H A) r _ is $ fjoin ! $
       move ! (1 ∷ 0 ∷ []) $ fjoin ! $ by ! (own-shut 𝓤 H A W (T.the-type α) (T′.the-laws α) (s, (r, tt)))
 
-  module _ (C : Calls 𝓤 H) (Λ : Loops 𝓤 H) (fm : FmC 𝓤 H (W .laws) C) (known : Triple 𝓤 (C #view·read-numbers) (Read 𝓤 H A mem run)) where
+  module _ (C : Calls 𝓤 H) (Λ : Loops 𝓤 H) (fm : FmC 𝓤 H (W .laws) C) (known : Triple 𝓤 (C #view·numbers-of) (Read 𝓤 H A mem run)) where
     walk : Is (ShrSlice (named 0) κ u8) s (v ∷ []) → ent 𝓤 (onEntry 𝓤 H A made.signature (κ, tt) (q, tt) (s, tt) (v ∷ [], tt)) (WpFn 𝓤 H C Λ code.function (v ∷ []) Post)
     walk p =
         let typed = shr-slice-lawful 𝓤 H A W (named 0) κ u8 .typed s (v ∷ []) p .0 in
@@ -125,7 +125,7 @@ module _ {M : Type 1} (𝓤 : URA M) (H : Heap 𝓤) (A : Atoms 𝓤) (W : Given
         -- [room for _2; …; _1; …; room for _0; …; what is had at entry]
         move ! (6 ∷ []) $ use1 W (raw (Read 𝓤 H A mem run .pre to) ⊛ ‵ Own) goes $ split ! $
         calls-at ! fm (Read 𝓤 H A mem run) known to (and-then ! (load ! (from ! (stop !)) (look ! 4 refl)) (no-more !)) (λ u.
-        use1 W (later (some (λ (r : Numbers). ((‵ (flft κ q) ⊛ ‵ ftrue) ⊛ ‵ (N.the-row .own r (u ∷ []))) ⊛ raw (ensured 𝓤 H A reading.ended (reading.clauses 𝓤 H A mem run) (κ, tt) (s, tt) tt r)))) (id⊢ 𝓤 _) $ await ! tt $ pick ! (λ r.
+        use1 W (later (some (λ (r : Values). ((‵ (flft κ q) ⊛ ‵ ftrue) ⊛ ‵ (N.the-row .own r (u ∷ []))) ⊛ raw (ensured 𝓤 H A reading.ended (reading.clauses 𝓤 H A mem run) (κ, tt) (s, tt) tt r)))) (id⊢ 𝓤 _) $ await ! tt $ pick ! (λ r.
         split ! $ move ! (1 ∷ []) $ use1 W (raw (fact 𝓤 (r ≡ found))) (said r) $ heard ! (r ≡ found) (λ e. split ! $ move ! (1 ∷ []) $
         facts ! N.the-row (Is N.the-row) (shows 𝓤 H A N.the-row) r (u ∷ []) (λ is.
         -- [the token; what the slice owns; room for _2; …; _1; …; room for _0; …]
@@ -138,14 +138,14 @@ module _ {M : Type 1} (𝓤 : URA M) (H : Heap 𝓤) (A : Atoms 𝓤) (W : Given
         by ! (exits r (is-spelled r u is) e))))))))
 
 module _ {M : Type 1} (𝓤 : URA M) (H : Heap 𝓤) (A : Atoms 𝓤) (W : Given 𝓤 H A) (mem : Memory → SProp 𝓤) (run : Routine → Fun 𝓤) where
-  of-walks : (C : Calls 𝓤 H) (Λ : Loops 𝓤 H) → FmC 𝓤 H (W .laws) C → Triple 𝓤 (C #view·read-numbers) (Read 𝓤 H A mem run)
+  of-walks : (C : Calls 𝓤 H) (Λ : Loops 𝓤 H) → FmC 𝓤 H (W .laws) C → Triple 𝓤 (C #view·numbers-of) (Read 𝓤 H A mem run)
       → Walks 𝓤 H A made.ended stayed (WpFn 𝓤 H C Λ code.function) (made.clauses 𝓤 H A mem run)
   of-walks C Λ fm known =
       walked 𝓤 H A made.ended stayed (made.clauses 𝓤 H A mem run) (WpFn 𝓤 H C Λ code.function) (λ κs. (slice-vals, tt)) (λ κs. (shr-slice-tells (named 0) (κs .0) u8, tt))
       (λ κs qs bounds a g are. via 𝓤 _ (fst∗ 𝓤 _ (emp 𝓤)) (walk 𝓤 H A W mem run (κs .0) (qs .0) (a .0) C Λ fm known (are .0)))
 
 of-meets : {M : Type 1} (𝓤 : URA M) (H : Heap 𝓤) (A : Atoms 𝓤) (W : Given 𝓤 H A) (mem : Memory → SProp 𝓤) (run : Routine → Fun 𝓤) (𝓣 : Tables 𝓤 H)
-    → Triple 𝓤 (𝓣 .C #view·read-numbers) (Read 𝓤 H A mem run) → Meets 𝓤 H A made.signature (WpFn 𝓤 H (𝓣 .C) (𝓣 .Λ) code.function) (made.spec 𝓤 H A mem run)
+    → Triple 𝓤 (𝓣 .C #view·numbers-of) (Read 𝓤 H A mem run) → Meets 𝓤 H A made.signature (WpFn 𝓤 H (𝓣 .C) (𝓣 .Λ) code.function) (made.spec 𝓤 H A mem run)
 of-meets 𝓤 H A W mem run 𝓣 known =
     walk-meets 𝓤 H A made.ended stayed W (goes-none-slice 𝓤 H A W 1 (0 ∷ []) tt (plain (λ _. u8)) yes, tt) (made.clauses 𝓤 H A mem run)
     (WpFn 𝓤 H (𝓣 .C) (𝓣 .Λ) code.function) (WpFn-mono 𝓤 H (W .laws) 𝓣 code.function) (of-walks 𝓤 H A W mem run (𝓣 .C) (𝓣 .Λ) (fmOf 𝓤 H (W .laws) 𝓣) known)
@@ -156,4 +156,4 @@ of-spec 𝓤 H 𝓜 𝓖 𝓡 =
     entered 𝓤 H (tripleOf 𝓤 H (𝓖 .A) made.signature (made.spec 𝓤 H (𝓖 .A) (𝓜 .mem) (𝓡 .run)))
     (tables 𝓤 H 𝓜 𝓡 code.env .C) (tables 𝓤 H 𝓜 𝓡 code.env .Λ) #view·of code.function (code.unfolded 𝓤 H 𝓜 𝓡)
     (of-meets 𝓤 H (𝓖 .A) (givenOf 𝓤 H 𝓜 𝓖) (𝓜 .mem) (𝓡 .run) (tablesOf 𝓤 H 𝓜 (tables 𝓤 H 𝓜 𝓡 code.env))
-    (cited 𝓤 H (Read 𝓤 H (𝓖 .A) (𝓜 .mem) (𝓡 .run)) 𝓜 𝓡 code.env #view·read-numbers reading-def.routine code.calls-view·frame-numbers·read-numbers (reading-thm.met 𝓤 H 𝓜 𝓖 𝓡)))
+    (cited 𝓤 H (Read 𝓤 H (𝓖 .A) (𝓜 .mem) (𝓡 .run)) 𝓜 𝓡 code.env #view·numbers-of reading-def.routine code.calls-view·numbers-of (reading-thm.met 𝓤 H 𝓜 𝓖 𝓡)))

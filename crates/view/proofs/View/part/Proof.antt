@@ -49,8 +49,8 @@ use Rattle.view.specs.declared.View.{View}
 use Rattle.view.specs.declared.parts.Field.{Field}
 use Rattle.view.proofs.View as T
 use Rattle.view.proofs.View.Laws as T′
-use Rattle.view.proofs.frame_numbers.Numbers as N
-use Rattle.view.proofs.frame_numbers.Numbers.Laws as N′
+use Rattle.numbers.proofs.Values as N
+use Rattle.numbers.proofs.Values.Laws as N′
 use Rattle.view.proofs.parts.Field as F
 use Rattle.view.proofs.parts.Field.Laws as F′
 use Rattle.view.proofs.parts.shown as shown

@@ -8,30 +8,15 @@ use Rattle.view.proofs.parts.place_of.Tie as tie
 
 returns : tie.Need-returns
 unfolding placeOf
-returns c = simp (ne-eqb _ _ (c .if1 .taken))
+returns c = simp (eq-eqb _ _ (c .before .if1 .taken)) (c .join-place .ensures)
 
 returns-2 : tie.Need-returns-2
 unfolding placeOf
-returns-2 c = simp (eq-eqb _ _ (c .before .before .before .if1 .left), eq-eqb _ _ (c .before .if2 .taken)) (c .join-place .ensures)
+returns-2 c = simp (ne-eqb _ _ (c .before .before .before .if1 .left), eq-eqb _ _ (c .before .if2 .taken)) (c .data-place .ensures)
 
 returns-3 : tie.Need-returns-3
 unfolding placeOf
-returns-3 c =
-    simp (
-      eq-eqb _ _ (c .before .before .before .before .if1 .left),
-      ne-eqb _ _ (c .before .before .if2 .left),
-      eq-eqb _ _ (c .if3 .taken),
-    )
-
-returns-4 : tie.Need-returns-4
-unfolding placeOf
-returns-4 c =
-    simp (
-      eq-eqb _ _ (c .before .before .before .before .before .if1 .left),
-      ne-eqb _ _ (c .before .before .before .if2 .left),
-      ne-eqb _ _ (c .before .if3 .left),
-    )
-    (c .data-place .ensures)
+returns-3 c = simp (ne-eqb _ _ (c .before .before .if1 .left), ne-eqb _ _ (c .if2 .left))
 
 pub place-of-spec : {M : Type 1} → statement M
-place-of-spec = tie.close (tie.spec returns (λ c κs. search needs) returns-2 returns-3 (λ c κs. search needs) returns-4)
+place-of-spec = tie.close (tie.spec (λ c κs. search needs) returns (λ c κs. search needs) returns-2 returns-3)
