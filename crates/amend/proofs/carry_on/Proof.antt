@@ -7,6 +7,7 @@ use lib.ListN.{length}
 use lib.Seq.{sets}
 use Rattle.base.specs.Bytes.{xorL}
 use Rattle.aes.specs.Fips197.{cipher}
+use Rattle.pieces.proofs.Laws.{block-inside}
 use Rattle.amend.specs.Amending.{chained}
 use Rattle.amend.proofs.Chains.{carry-step, carry-done}
 use Rattle.amend.proofs.carry_on.Statement.{statement}
@@ -30,10 +31,11 @@ loop-again c =
       search needs,
       c .before .before .put .kept .0 ∙ l .inv .1,
       ap (chained ks f (args .to - (l .i + 1)) (l .i + 1))
-          (c .before .before .put .ensures
+          (c .before .before .put .ensures .list
           ∙ ap (sets (l .chains) (16 * (l .i + 1)))
           (c .before .before .before .before .before .next-chain .ensures
-          ∙ ap₂ (λ (x y : List ℕ). cipher ks (xorL x y)) (c .before .before .before .before .before .before .before .block-at .ensures) (c .before .before .before .before .before .before .block-at2 .ensures)))
+          ∙ ap₂ (λ (x y : List ℕ). cipher ks (xorL x y)) (c .before .before .before .before .before .before .before .block-at .ensures ∙ block-inside (l .chains) (16 * l .i) (search needs))
+          (c .before .before .before .before .before .before .block-at2 .ensures ∙ block-inside f (16 * l .i) (search needs))))
           ∙ carry-step ks f (args .to) (l .i) (l .chains) (search needs)
           ∙ l .inv .2,
     )

@@ -13,7 +13,7 @@ returns c =
     let f = args .frame .now in
     let carried = c .before .before .before .before .before .before .before .before .before .before .carry-on .ensures in (
       carried,
-      c .before .before .put .ensures
+      c .before .before .put .ensures .list
           ∙ ap (sets f (args .n)) (c .before .before .before .before .before .sign-from .ensures ∙ ap (signedFrom (args .t1) f (args .n)) carried),
     )
 

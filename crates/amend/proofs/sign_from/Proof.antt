@@ -4,6 +4,7 @@ use mathlib.Core.Path.{ap, _∙_}
 use borrow.Author.Needs.{needs}
 use lib.ListN.{take}
 use Rattle.base.specs.Bytes.{part}
+use Rattle.pieces.proofs.Laws.{block-inside}
 use Rattle.cmac.specs.declared.Cmac.{Cmac}
 use Rattle.cmac.specs.Running.{resumed, absorbed, finished}
 use Rattle.amend.specs.Amending.{lastBlock, signedFrom}
@@ -21,7 +22,7 @@ returns c =
     ∙ ap finished
     (c .before .before .update .ensures
     ∙ ap (λ (s : Cmac). absorbed s rest)
-    (c .before .before .before .before .resume .ensures ∙ ap (resumed (args .schedule)) (c .before .before .before .before .before .block-at .ensures))))
+    (c .before .before .before .before .resume .ensures ∙ ap (resumed (args .schedule)) (c .before .before .before .before .before .block-at .ensures ∙ block-inside (args .chains .now) (16 * lastBlock (args .n)) (search needs)))))
 
 pub sign-from-spec : {M : Type 1} → statement M
 sign-from-spec =
