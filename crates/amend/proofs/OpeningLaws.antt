@@ -2,6 +2,7 @@
 -- MIC from the last of them is that of the frame, and the bytes that are stored are the frame with zeros behind.
 -- Assumes nothing.
 use mathlib.Core.Path.{_≡_, sym, ap, ap₂, _∙_, subst}
+use mathlib.Core.Bool.{Bool}
 use mathlib.Core.List.{List, [], _∷_, _++_}
 use Prim.Native.Nat.{ℕ, _+_, _-_, _*_, _%_, _≤_, _<_}
 use native.Mathlib.Omega.{arith}
@@ -10,12 +11,13 @@ use lib.Seq.{sets, sets-eq, length-sets, getD-drop, take-at, take-take, length-t
 use borrow.Author.Tests.{eq-eqb, ne-eqb}
 use denote.Enum.Declared.{tagOf}
 use types.Run.{OneOf}
-use Rattle.base.specs.Bytes.{at, part, xorL}
+use Rattle.base.specs.Bytes.{pick, at, part, xorL}
 use Rattle.base.proofs.Tab.{tab-at, same-at}
 use Rattle.base.proofs.Lent.{part-long}
 use Rattle.base.proofs.Parts.{at-part}
 use Rattle.aes.specs.Fips197.{keyExpansion, cipher}
 use Rattle.aes.proofs.Laws.{cipher-long}
+use Rattle.cmac.specs.Compared.{sameBytes}
 use Rattle.cmac.specs.Rfc4493.{zeros, chain, mac, mic}
 use Rattle.cmac.proofs.Laws.{chain-zero, chain-suc}
 use Rattle.frame.specs.Conditions.{IsData}
@@ -31,7 +33,7 @@ use Rattle.secure.specs.Security.{startOf, helperBlock, dataMic}
 use Rattle.secure.proofs.SecurityLaws.{helperBlock-long, helperBlock-start, helperBlock-same}
 use Rattle.amend.specs.Amending.{state, lastBlock, chained, signedFrom}
 use Rattle.amend.specs.declared.Open.{Open}
-use Rattle.amend.specs.Opening.{held, covered, message, chainsOf, openedOf, refusedOpening, openChecked, openData, openOf}
+use Rattle.amend.specs.Opening.{held, covered, message, chainsOf, openedOf, refusedOpening, acceptedOpening, openChecked, openData, openOf}
 use Rattle.amend.proofs.Stores.{part-after, part-stored}
 use Rattle.amend.proofs.Chains.{Right, table-right, carried-table, block-behind, signed-right}
 
@@ -99,13 +101,23 @@ signed-mic nwk g counter n lo hi inside =
     inside (table-right ks m (lastBlock n) (lastBlock n) (omega arith) (omega arith))
 
 -- the same from an opened state
-pub state-mic : (f nwk app : List ℕ) (counter : ℕ) (s : Open) → 12 ≤ length f → length f ≤ 255
+state-mic : (f nwk app : List ℕ) (counter : ℕ) (s : Open) → 12 ≤ length f → length f ≤ 255
     → s ≡ openedOf f nwk app counter
     → signedFrom (s .«nwk_schedule») f (length f - 4) (s .chains) ≡ dataMic nwk (covered f) counter
 unfolding openedOf
 state-mic f nwk app counter s lo hi e =
     ap (λ (o : Open). signedFrom (o .«nwk_schedule») f (length f - 4) (o .chains)) e
     ∙ signed-mic nwk f counter (length f - 4) (omega arith) (omega arith) (omega arith)
+
+-- the answer by the state, the two MICs and the test that the code computes
+pub checked-is : (f nwk app : List ℕ) (counter : ℕ) (s : Open) {m g : List ℕ} {t : Bool} → 12 ≤ length f → length f ≤ 255
+    → s ≡ openedOf f nwk app counter → m ≡ signedFrom (s .«nwk_schedule») f (length f - 4) (s .chains) → g ≡ micOf f
+    → t ≡ sameBytes m g → pick t (acceptedOpening s) (refusedOpening 5 0) ≡ openChecked f nwk app counter
+unfolding openChecked
+checked-is f nwk app counter s lo hi made hm hg ht =
+    ap₂ (λ (b : Bool) (o : Open). pick b (acceptedOpening o) (refusedOpening 5 0))
+    (ht ∙ ap₂ sameBytes (hm ∙ state-mic f nwk app counter s lo hi made) hg)
+    made
 
 -- the frame stored at the front of 255 zeros
 pub stored-frame : (f : List ℕ) → length f ≤ 255 → sets (replicate {A = ℕ} 255 0) 0 f ≡ held f

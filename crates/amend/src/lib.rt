@@ -4,8 +4,7 @@ ghost use mathlib.Core.Path.{_≡_};
 ghost use Prim.Native.Nat.{_+_, _-_, _*_, _/_, _%_, _≤_, _<_};
 ghost use lib.Dec.{leb, eqb};
 ghost use lib.ListN.{length};
-ghost use lib.Seq.{sets};
-ghost use Rattle.base.specs.Bytes.{part, pick};
+ghost use Rattle.base.specs.Bytes.{pick};
 ghost use Rattle.frame.specs.Layout.{fport, payloadStart, micOf};
 ghost use Rattle.amend.specs.Amending.{mask, lastBlock, chained, signedFrom, carried, resigned, amendedTo, amendOf};
 ghost use Rattle.amend.specs.Opening.{covered, message, chainsOf, openedOf, nothing, refusedOpening, openChecked, openOf};
@@ -51,32 +50,6 @@ pub struct Outcome {
     pub place: usize,
 }
 
-// The bytes of `src`, stored from `at` on.
-fn put(out: &mut [u8], at: usize, src: &[u8])
-    requires { ⌜ at + length (now src) ≤ length (now out) ⌝ }
-    ensures { λ _. ⌜ now (out .exit) ≡ sets (now (out .entry)) at (now (src .entry)) ⌝ }
-{
-    let mut i: usize = 0;
-    while i < src.len() {
-        out[at + i] = src[i];
-        i += 1;
-    }
-}
-
-// The sixteen bytes from `at` on.
-fn block_at(bytes: &[u8], at: usize) -> [u8; 16]
-    requires { ⌜ at + 16 ≤ length (now bytes) ⌝ }
-    ensures { λ r. ⌜ r ≡ part at 16 (now (bytes .entry)) ⌝ }
-{
-    let mut r = [0u8; 16];
-    let mut i: usize = 0;
-    while i < 16 {
-        r[i] = bytes[at + i];
-        i += 1;
-    }
-    r
-}
-
 // The chain values at the places after `from`, up to `to`, each from the one before it and the frame's block there.
 fn carry_on(schedule: &[u8; 176], frame: &[u8], chains: &mut [u8], from: usize, to: usize)
     requires { ⌜ (from ≤ to) × (16 * to ≤ length (now frame)) × (16 * to + 16 ≤ length (now chains)) × (to ≤ 15) ⌝ }
@@ -84,10 +57,10 @@ fn carry_on(schedule: &[u8; 176], frame: &[u8], chains: &mut [u8], from: usize, 
 {
     let mut i = from;
     while i < to {
-        let chain = block_at(chains, 16 * i);
-        let block = block_at(frame, 16 * i);
+        let chain = pieces::block_at(chains, 16 * i);
+        let block = pieces::block_at(frame, 16 * i);
         let next = cmac::next_chain(schedule, chain, block);
-        put(chains, 16 * (i + 1), &next);
+        pieces::put(chains, 16 * (i + 1), &next);
         i += 1;
     }
 }
@@ -98,7 +71,7 @@ fn sign_from(schedule: [u8; 176], frame: &[u8], n: usize, chains: &[u8]) -> [u8;
     ensures { λ r. ⌜ r ≡ signedFrom schedule (now (frame .entry)) n (now (chains .entry)) ⌝ }
 {
     let start = 16 * ((n - 1) / 16);
-    let chain = block_at(chains, start);
+    let chain = pieces::block_at(chains, start);
     let tag = cmac::Cmac::resume(schedule, chain)
         .update(&frame[start..n])
         .finish();
@@ -147,7 +120,7 @@ fn resign(schedule: [u8; 176], frame: &mut [u8], chains: &mut [u8], n: usize, p:
 {
     carry_on(&schedule, frame, chains, p / 16, (n - 1) / 16);
     let mic = sign_from(schedule, frame, n, chains);
-    put(frame, n, &mic);
+    pieces::put(frame, n, &mic);
 }
 
 // How many payload bytes there are, by FCtrl and the length of the frame; past 255 bytes there are none.
@@ -253,7 +226,7 @@ fn chains_of(schedule: &[u8; 176], frame: &[u8], counter: u32) -> [u8; 256]
     let first = secure::securityhelpers::helper_block(0x49, start, counter, n as u8);
     let ahead = cmac::next_chain(schedule, [0u8; 16], first);
     let mut chains = [0u8; 256];
-    put(&mut chains, 0, &ahead);
+    pieces::put(&mut chains, 0, &ahead);
     carry_on(schedule, frame, &mut chains, 0, (n - 1) / 16);
     chains
 }
@@ -267,7 +240,7 @@ fn open_state(frame: &[u8], nwk_skey: [u8; 16], app_skey: [u8; 16], counter: u32
     let app_schedule = aes::expand(app_skey);
     let chains = chains_of(&nwk_schedule, frame, counter);
     let mut held = [0u8; 255];
-    put(&mut held, 0, frame);
+    pieces::put(&mut held, 0, frame);
     Open {
         frame: held,
         length: frame.len(),
@@ -379,7 +352,7 @@ pub fn amend_frame(
         let after = last.state;
         let held = after.frame;
         let n = frame.len();
-        put(frame, 0, &held[..n]);
+        pieces::put(frame, 0, &held[..n]);
     }
     Outcome {
         number: last.number,

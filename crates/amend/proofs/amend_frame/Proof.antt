@@ -1,5 +1,5 @@
 -- `amend_frame` opens, applies the list and stores the frame where nothing was refused. Assumes nothing.
-use Prim.Native.Nat.{_+_, _≤_}
+use Prim.Native.Nat.{_≤_}
 use mathlib.Core.Path.{_≡_, sym, _∙_}
 use native.Mathlib.Omega.{arith}
 use borrow.Author.Needs.{needs}
@@ -37,14 +37,6 @@ array-share-prefix-held c = fits (c .before .before .before .before .before)
 slice-aggregate-put : tie.Need-slice-aggregate-put
 slice-aggregate-put c = sym (length-take-le _ _ (fits (c .before .before .before .before .before .before)))
 
-put-requires : tie.Need-put-requires
-put-requires c κs =
-    let f = c .before .before .before .before .before .before .before .before .before .before .before .before .before .before .args .frame .now in
-    let held = c .before .before .before .before .before .before .amend-all .result .state .frame in
-    let long : length (take (length f) held) ≡ length f = length-take-le (length f) held (fits (c .before .before .before .before .before .before)) in
-    let room : 0 + length (take (length f) held) ≤ length f = omega arith in
-    room
-
 returns-2 : tie.Need-returns-2
 returns-2 c =
     let args = c .before .before .before .before .before .before .before .before .before .before .before .before .before .before .before .before .before .args in
@@ -55,7 +47,7 @@ returns-2 c =
     let law = whole-list f (args .nwk-skey) (args .app-skey) (args .counter) (args .amendments .now) (o .result) (o .ensures)
     (c .before .before .before .before .before .before .before .before .before .before .before .if1 .left) (a .result) (a .ensures) (c .before .before .before .before .before .before .before .if2 .taken) in (
       law .0,
-      c .before .before .put .ensures
+      c .before .before .put .ensures .list
           ∙ whole-stored f (take (length f) held) (length-take-le (length f) held (fits (c .before .before .before .before .before .before .before .before .before)))
           ∙ law .1,
     )
@@ -81,7 +73,7 @@ amend-frame-spec =
     (λ c κs. search needs)
     array-share-prefix-held
     slice-aggregate-put
-    put-requires
+    (λ c κs. search needs)
     (λ c. search needs)
     returns-2
     (λ c. search needs)

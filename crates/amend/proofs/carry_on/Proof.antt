@@ -1,8 +1,13 @@
 -- `carry_on` stores one chain value more a turn; what is still to be carried on gives the same. Assumes nothing.
-use Prim.Native.Nat.{_-_, _≤_}
-use mathlib.Core.Path.{_≡_, refl, sym, _∙_}
+use Prim.Native.Nat.{ℕ, _+_, _-_, _*_, _≤_}
+use mathlib.Core.Path.{_≡_, refl, sym, ap, ap₂, _∙_}
+use mathlib.Core.List.{List}
 use borrow.Author.Needs.{needs}
 use lib.ListN.{length}
+use lib.Seq.{sets}
+use Rattle.base.specs.Bytes.{xorL}
+use Rattle.aes.specs.Fips197.{cipher}
+use Rattle.pieces.proofs.Laws.{block-inside}
 use Rattle.amend.specs.Amending.{chained}
 use Rattle.amend.proofs.Chains.{carry-step, carry-done}
 use Rattle.amend.proofs.carry_on.Statement.{statement}
@@ -20,10 +25,19 @@ loop-again : tie.Need-loop-again Inv-loop μ-loop
 loop-again c =
     let head = c .before .before .before .before .before .before .before .before .before .before in
     let args = head .before .before .before .args in
+    let ks = args .schedule .now in
+    let f = args .frame .now in
     let l = head .loop in (
       search needs,
       c .before .before .put .kept .0 ∙ l .inv .1,
-      cc (carry-step (args .schedule .now) (args .frame .now) (args .to) (l .i) (l .chains) (search needs)),
+      ap (chained ks f (args .to - (l .i + 1)) (l .i + 1))
+          (c .before .before .put .ensures .list
+          ∙ ap (sets (l .chains) (16 * (l .i + 1)))
+          (c .before .before .before .before .before .next-chain .ensures
+          ∙ ap₂ (λ (x y : List ℕ). cipher ks (xorL x y)) (c .before .before .before .before .before .before .before .block-at .ensures ∙ block-inside (l .chains) (16 * l .i) (search needs))
+          (c .before .before .before .before .before .before .block-at2 .ensures ∙ block-inside f (16 * l .i) (search needs))))
+          ∙ carry-step ks f (args .to) (l .i) (l .chains) (search needs)
+          ∙ l .inv .2,
     )
 
 returns : tie.Need-returns Inv-loop μ-loop

@@ -24,7 +24,7 @@ returns c =
     ∙ ap (λ (s : List ℕ). helperBlock 0x49 s (args .counter) (length f - 4)) (c .before .before .before .before .before .before .before .before .before .start-of .ensures) in
     c .before .carry-on .ensures
     ∙ ap (chained ks f (last - 0) 0)
-    (c .before .before .before .before .put .ensures ∙ ap (sets (replicate {A = ℕ} 256 0) 0) (c .before .before .before .before .before .before .before .next-chain .ensures))
+    (c .before .before .before .before .put .ensures .list ∙ ap (sets (replicate {A = ℕ} 256 0) 0) (c .before .before .before .before .before .before .before .next-chain .ensures))
     ∙ opened-table ks f (args .counter) (start .pre .0) (start .pre .1) (first .result) right
 
 pub chains-of-spec : {M : Type 1} → statement M

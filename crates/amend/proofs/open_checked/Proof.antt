@@ -1,15 +1,13 @@
 -- `open_checked` compares the MIC of the chain values with the frame's. Assumes nothing.
-use Prim.Native.Nat.{_-_}
-use mathlib.Core.Bool.{true, false}
-use mathlib.Core.Path.{_≡_}
+use mathlib.Core.Bool.{Bool}
+use mathlib.Core.Path.{_≡_, sym, ap, _∙_}
 use native.Mathlib.Omega.{arith}
 use borrow.Author.Needs.{needs}
 use lib.ListN.{length}
-use Rattle.cmac.specs.Compared.{sameBytes}
-use Rattle.frame.specs.Layout.{micOf}
-use Rattle.secure.specs.Security.{dataMic}
-use Rattle.amend.specs.Opening.{covered, openChecked}
-use Rattle.amend.proofs.OpeningLaws.{state-mic}
+use Rattle.base.specs.Bytes.{pick}
+use Rattle.amend.specs.declared.Open.{Open}
+use Rattle.amend.specs.Opening.{refusedOpening, acceptedOpening, openChecked}
+use Rattle.amend.proofs.OpeningLaws.{checked-is}
 use Rattle.amend.proofs.open_checked.Statement.{statement}
 use Rattle.amend.proofs.open_checked.Tie as tie
 
@@ -18,27 +16,32 @@ sign-from-requires c κs =
     let long : length (c .before .before .before .open-state .result .chains) ≡ 256 = search needs in
     (omega arith, omega arith, omega arith)
 
-returns : tie.Need-returns
-unfolding openChecked
-returns c =
-    let start = c .before .before .before .before .before .before .before .before .before in
+-- the answer by the test
+checked : (c : tie.After-same-mic) →
+    let args = c .before .before .before .before .before .before .before .before .args in
+    pick (c .same-mic .result) (acceptedOpening (c .before .before .before .before .before .before .open-state .result)) (refusedOpening 5 0)
+    ≡ openChecked (args .frame .now) (args .nwk-skey) (args .app-skey) (args .counter)
+checked c =
+    let start = c .before .before .before .before .before .before .before .before in
     let args = start .args in
-    let f = args .frame .now in
-    let made = c .before .before .before .before .before .before .before .open-state in
-    let law = state-mic f (args .«nwk-skey») (args .«app-skey») (args .counter) (made .result) (start .pre .0) (start .pre .1) (made .ensures) in
-    let same : sameBytes (dataMic (args .«nwk-skey») (covered f) (args .counter)) (micOf f) ≡ true = cc in
-    simp same (cc)
+    let made = c .before .before .before .before .before .before .open-state in
+    checked-is (args .frame .now) (args .nwk-skey) (args .app-skey) (args .counter) (made .result) (start .pre .0) (start .pre .1)
+    (made .ensures)
+    (c .before .before .sign-from .ensures)
+    (c .before .mic-at .ensures)
+    (c .same-mic .ensures)
+
+returns : tie.Need-returns
+returns c =
+    let made = c .before .before .before .before .before .before .before .open-state .result in
+    sym (ap (λ (t : Bool). pick t (acceptedOpening made) (refusedOpening 5 0)) (c .if1 .taken)) ∙ checked (c .before)
 
 returns-2 : tie.Need-returns-2
-unfolding openChecked
 returns-2 c =
-    let start = c .before .before .before .before .before .before .before .before .before .before in
-    let args = start .args in
-    let f = args .frame .now in
-    let made = c .before .before .before .before .before .before .before .before .open-state in
-    let law = state-mic f (args .«nwk-skey») (args .«app-skey») (args .counter) (made .result) (start .pre .0) (start .pre .1) (made .ensures) in
-    let other : sameBytes (dataMic (args .«nwk-skey») (covered f) (args .counter)) (micOf f) ≡ false = cc in
-    simp other (cc)
+    let made = c .before .before .before .before .before .before .before .before .open-state .result in
+    ap (λ (s : Open). record { number = 5; place = 0; state = s }) (c .no-state .ensures)
+    ∙ sym (ap (λ (t : Bool). pick t (acceptedOpening made) (refusedOpening 5 0)) (c .before .if1 .left))
+    ∙ checked (c .before .before)
 
 pub open-checked-spec : {M : Type 1} → statement M
 open-checked-spec =

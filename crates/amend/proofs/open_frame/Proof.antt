@@ -1,14 +1,16 @@
 -- `open_frame` goes by the reading, then by the counter. Assumes nothing.
-use mathlib.Core.Path.{_≡_, sym, _∙_, subst}
+use mathlib.Core.Path.{_≡_, sym, ap, ap₂, _∙_, subst}
 use mathlib.Core.List.{[], _∷_}
 use denote.Enum.Declared.{tagOf}
 use types.Run.{OneOf}
 use borrow.Author.Needs.{needs}
+use Rattle.frame.specs.Numbers.{otherNumber, placeOf}
 use Rattle.frame.specs.Reading.{readOf}
 use Rattle.frame.specs.declared.parser.Reading.{Reading}
 use Rattle.frame.specs.declared.parser.Reading.the-variants.{Data}
 use Rattle.frame.proofs.ReadingLaws.{data-read}
 use Rattle.frame.proofs.parser.Reading as R
+use Rattle.amend.specs.Opening.{refusedOpening}
 use Rattle.amend.proofs.OpeningLaws.{open-data, open-other, counter-right, counter-wrong, read-fcnt}
 use Rattle.amend.proofs.open_frame.Statement.{statement}
 use Rattle.amend.proofs.open_frame.Tie as tie
@@ -20,7 +22,9 @@ returns c =
     let read = c .before .before .before .before .read in
     let other : OneOf (0 ∷ 1 ∷ 3 ∷ []) (tagOf R.the-type (readOf f)) =
     subst (λ (r : Reading). OneOf (0 ∷ 1 ∷ 3 ∷ []) (tagOf R.the-type r)) (read .ensures) (c .before .before .before .match .keys2) in
-    cc (open-other f (args .nwk-skey) (args .app-skey) (args .counter) other)
+    c .refused .ensures
+    ∙ ap₂ refusedOpening (c .before .before .other-number .ensures ∙ ap otherNumber (read .ensures)) (c .before .place-of .ensures ∙ ap placeOf (read .ensures))
+    ∙ sym (open-other f (args .nwk-skey) (args .app-skey) (args .counter) other)
 
 open-checked-requires : tie.Need-open-checked-requires
 open-checked-requires c κs =

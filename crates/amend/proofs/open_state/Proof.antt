@@ -11,7 +11,7 @@ returns c =
     let args = start .args in
     let f = args .frame .now in
     opened-is f (args .nwk-skey) (args .app-skey) (args .counter)
-    (c .before .put .ensures ∙ stored-frame f (start .pre .1))
+    (c .before .put .ensures .list ∙ stored-frame f (start .pre .1))
     (c .before .before .before .before .before .before .expand .ensures)
     (c .before .before .before .before .before .expand2 .ensures)
     (c .before .before .before .chains-of .ensures)

@@ -1,11 +1,21 @@
 -- `resign` carries the chain values on, signs from the last of them and stores the MIC. Assumes nothing.
+use mathlib.Core.Path.{ap, _∙_}
 use native.Mathlib.Omega.{arith}
 use borrow.Author.Needs.{needs}
+use lib.Seq.{sets}
+use Rattle.amend.specs.Amending.{signedFrom}
 use Rattle.amend.proofs.resign.Statement.{statement}
 use Rattle.amend.proofs.resign.Tie as tie
 
 returns : tie.Need-returns
-returns c = (cc, cc)
+returns c =
+    let args = c .before .before .before .before .before .before .before .before .before .before .before .before .before .before .before .before .args in
+    let f = args .frame .now in
+    let carried = c .before .before .before .before .before .before .before .before .before .before .carry-on .ensures in (
+      carried,
+      c .before .before .put .ensures .list
+          ∙ ap (sets f (args .n)) (c .before .before .before .before .before .sign-from .ensures ∙ ap (signedFrom (args .t1) f (args .n)) carried),
+    )
 
 pub resign-spec : {M : Type 1} → statement M
 resign-spec =

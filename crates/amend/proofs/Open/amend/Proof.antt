@@ -1,34 +1,32 @@
 -- `amend` tests the offset; inside it is `amended`. Assumes nothing.
 use Prim.Native.Nat.{ℕ, _<_, _≤_}
-use mathlib.Core.Path.{_≡_, subst}
+use mathlib.Core.Path.{sym, ap, _∙_, subst}
 use borrow.Author.Needs.{needs}
-use borrow.Author.Tests.{lt-ltb, le-ltb}
-use Rattle.amend.specs.Amending.{payloadLength, amendOf}
-use Rattle.amend.proofs.Within.{inside}
+use Rattle.amend.specs.declared.Open.{Open}
+use Rattle.amend.proofs.Within.{inside, amend-inside, amend-outside}
 use Rattle.amend.proofs.Open.amend.Statement.{statement}
 use Rattle.amend.proofs.Open.amend.Tie as tie
 
 amended-requires : tie.Need-amended-requires
 amended-requires c κs =
     let args = c .before .before .before .args in
-    let e : c .before .payload-length .result ≡ payloadLength (args .t1) = cc in
-    inside (args .t1) (args .offset) (subst (λ (n : ℕ). args .offset < n) e (c .if1 .taken))
+    inside (args .t1) (args .offset)
+    (subst (λ (n : ℕ). args .offset < n) (c .before .payload-length .ensures) (c .if1 .taken))
 
 returns : tie.Need-returns
-unfolding amendOf
 returns c =
     let args = c .before .before .before .before .args in
-    let e : c .before .before .payload-length .result ≡ payloadLength (args .t1) = cc in
-    let h : args .offset < payloadLength (args .t1) = subst (λ (n : ℕ). args .offset < n) e (c .before .if1 .taken) in
-    simp (lt-ltb (args .offset) (payloadLength (args .t1)) h) (cc)
+    ap (λ (s : Open). record { number = 0; place = 0; state = s }) (c .amended .ensures)
+    ∙ sym
+    (amend-inside (args .t1) (args .offset) (args .value)
+    (subst (λ (n : ℕ). args .offset < n) (c .before .before .payload-length .ensures) (c .before .if1 .taken)))
 
 returns-2 : tie.Need-returns-2
-unfolding amendOf
 returns-2 c =
     let args = c .before .before .before .args in
-    let e : c .before .payload-length .result ≡ payloadLength (args .t1) = cc in
-    let h : payloadLength (args .t1) ≤ args .offset = subst (λ (n : ℕ). n ≤ args .offset) e (c .if1 .left) in
-    simp (le-ltb (args .offset) (payloadLength (args .t1)) h)
+    sym
+    (amend-outside (args .t1) (args .offset) (args .value)
+    (subst (λ (n : ℕ). n ≤ args .offset) (c .before .payload-length .ensures) (c .if1 .left)))
 
 pub amend-spec : {M : Type 1} → statement M
 amend-spec =
