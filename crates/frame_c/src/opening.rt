@@ -11,6 +11,7 @@ use crate::answers::test_answer;
 use crate::storing::or_short;
 use crate::storing::put;
 use frame::keys::MaybeKey;
+use secure::payload::SessionKeys;
 
 #[no_mangle]
 pub extern "C" fn zinovoky_join_request_mic(
@@ -155,6 +156,22 @@ pub extern "C" fn zinovoky_decrypt_join_accept_checked(frame: &mut [u8], app_key
 
 pub(crate) const KEYS_LEN: usize = 32;
 
+// Stores two session keys that are derived, where there is room for them.
+fn store_keys(session: SessionKeys, keys: &mut [u8]) -> u64
+    ensures { λ r. ⌜ KeysInto session (now (keys .entry)) r (now (keys .exit)) ⌝ }
+{
+    let place = session.place;
+    let refusal = or_short(session.number, KEYS_LEN, keys.len());
+    if refusal != 0 {
+        return answer(refusal, place);
+    }
+    let nwk_skey = session.nwk_skey;
+    let app_skey = session.app_skey;
+    let end = put(keys, 0, &nwk_skey);
+    put(keys, end, &app_skey);
+    answer(0, place)
+}
+
 #[no_mangle]
 pub extern "C" fn zinovoky_session_keys(
     frame: &[u8],
@@ -169,14 +186,5 @@ pub extern "C" fn zinovoky_session_keys(
     let nonce = *dev_nonce;
     let key = *app_key;
     let session = secure::payload::session_keys(frame, nonce, key);
-    let place = session.place;
-    let refusal = or_short(session.number, KEYS_LEN, keys.len());
-    if refusal != 0 {
-        return answer(refusal, place);
-    }
-    let nwk_skey = session.nwk_skey;
-    let app_skey = session.app_skey;
-    let end = put(keys, 0, &nwk_skey);
-    put(keys, end, &app_skey);
-    answer(0, place)
+    store_keys(session, keys)
 }
