@@ -1,13 +1,14 @@
 -- A call that stores its answer's bytes keeps its promise where it is refused and stores nothing, and where there is room
 -- and the bytes stand at the start of the output. What is stored of equal values is the same.
 -- Assumes nothing.
-use mathlib.Core.Path.{_≡_, sym, ap, subst, _∙_}
+use mathlib.Core.Path.{_≡_, refl, sym, ap, subst, _∙_}
 use mathlib.Core.Bool.{Bool, true, false}
 use mathlib.Core.List.{List, _++_}
 use Prim.Native.Nat.{ℕ, _<_, _≤_}
 use native.Mathlib.Omega.{arith}
 use lib.Dec.{eqb, ltb}
 use lib.ListN.{length, drop}
+use mir.Val.{boolByte}
 use borrow.Author.Tests.{lt-ltb, le-ltb, eq-eqb, ne-eqb}
 use Rattle.base.specs.Bytes.{pick, at}
 use Rattle.base.proofs.Cases.{by-order, by-equal}
@@ -53,6 +54,11 @@ stored m k {p} {x} {b} {s} {l} {e} {r} {j} u z w h a put =
       output =
           put-front put room ∙ ap (λ (t : List ℕ). t ++ drop (length t) l) h ∙ ap (λ (n : ℕ). outOf n b l) (sym none);
     }
+
+-- a bool as a byte
+pub one-if : (b : Bool) → boolByte b ≡ pick b 1 0
+one-if true = refl
+one-if false = refl
 
 -- ---- the calls for C, of what they store
 

@@ -14,15 +14,6 @@ use frame::parser::values_of;
 
 pub(crate) const FIELDS_LEN: usize = 12;
 
-fn one_if(b: bool) -> u8
-    ensures { λ r. ⌜ r ≡ pick b 1 0 ⌝ }
-{
-    if b {
-        return 1;
-    }
-    0
-}
-
 // The place of the MIC of a frame by its length.
 fn mic_place(length: usize) -> usize
     ensures { λ r. ⌜ r ≡ length - 4 ⌝ }
@@ -48,7 +39,6 @@ fn field_bytes(frame: &[u8], v: Values) -> [u8; 12]
     ensures { λ r. ⌜ r ≡ fieldsOf (at (now (frame .entry)) 0) (length (now (frame .entry))) v ⌝ }
 {
     let first = byte_at(frame, 0);
-    let given = one_if(v.port_given);
     let mic = mic_place(frame.len());
     [
         first / 32,
@@ -56,7 +46,7 @@ fn field_bytes(frame: &[u8], v: Values) -> [u8; 12]
         (v.fcnt % 256) as u8,
         (v.fcnt / 256) as u8,
         (v.fopts_end % 256) as u8,
-        given,
+        v.port_given as u8,
         v.port,
         v.payload_kind,
         (v.payload_from % 256) as u8,

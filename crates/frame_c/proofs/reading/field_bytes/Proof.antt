@@ -6,6 +6,7 @@ use Prim.Native.Nat.{_/_, _%_}
 use denote.Ref.{now}
 use lib.ListN.{length}
 use Rattle.frame_c.specs.Fields.{fieldsOf}
+use Rattle.frame_c.proofs.Fillings.{one-if}
 use Rattle.frame_c.proofs.reading.field_bytes.Statement.{statement}
 use Rattle.frame_c.proofs.reading.field_bytes.Tie as tie
 
@@ -16,8 +17,8 @@ returns c =
     let n = length (now (c .before .before .before .before .before .before .before .before .before .args .frame)) in
     λ i.
     (c .before .before .before .before .before .before .before .byte-at .ensures i / 32) ∷ v .fctrl ∷ (v .fcnt % 256) ∷ (v .fcnt / 256) ∷ (v .«fopts_end» % 256)
-    ∷ c .before .before .before .before .before .before .one-if .ensures i ∷ v .port ∷ v .«payload_kind» ∷ (v .«payload_from» % 256) ∷ (v .«payload_to» % 256)
-    ∷ (c .before .before .before .before .before .mic-place .ensures i % 256) ∷ (n % 256) ∷ []
+    ∷ one-if (v .«port_given») i ∷ v .port ∷ v .«payload_kind» ∷ (v .«payload_from» % 256) ∷ (v .«payload_to» % 256)
+    ∷ (c .before .before .before .before .before .before .mic-place .ensures i % 256) ∷ (n % 256) ∷ []
 
 pub field-bytes-spec : {M : Type 1} → statement M
-field-bytes-spec = tie.close (tie.spec (λ c κs. search needs) (λ c κs. search needs) (λ c κs. search needs) (λ c. search needs) (λ c. search needs) (λ c. search needs) (λ c. search needs) (λ c. search needs) (λ c. search needs) (λ c. search needs) returns)
+field-bytes-spec = tie.close (tie.spec (λ c κs. search needs) (λ c κs. search needs) (λ c. search needs) (λ c. search needs) (λ c. search needs) (λ c. search needs) (λ c. search needs) (λ c. search needs) (λ c. search needs) (λ c. search needs) returns)
