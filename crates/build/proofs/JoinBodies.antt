@@ -4,7 +4,7 @@
 use mathlib.Core.Path.{_≡_, refl, sym, ap, ap₂, _∙_, subst}
 use mathlib.Core.Bool.{Bool, true, false}
 use mathlib.Core.List.{List, [], _∷_, _++_, append-nil}
-use Prim.Native.Nat.{ℕ, suc, _+_, _≤_, _<_}
+use Prim.Native.Nat.{ℕ, suc, _+_, _/_, _%_, _≤_, _<_}
 use native.Mathlib.Numerals.{add-one}
 use native.Mathlib.Omega.{arith}
 use lib.Dec.{ltb}
@@ -15,12 +15,16 @@ use Rattle.base.specs.Bytes.{pick, at, tab, AreBytes}
 use Rattle.base.proofs.Each.{each}
 use Rattle.base.proofs.Parts.{bytes-nil, bytes-cons, bytes-append}
 use Rattle.base.proofs.Tab.{tab-at}
-use Rattle.build.specs.Building.{acceptHead, cfListBytes, joinAcceptBody, joinRequestBody, tooHigh, both, either, joinAcceptLength, joinAcceptTests, joinAcceptRefusal, joinRequestRefusal}
+use Rattle.build.specs.Building.{acceptHead, cfListBytes, frequencyBytes, joinAcceptBody, joinRequestBody, listByte, tooHigh, both, either, joinAcceptLength, joinAcceptTests, joinAcceptRefusal, joinRequestRefusal}
 use Rattle.build.specs.declared.creator.JoinAcceptParts.{JoinAcceptParts}
 use Rattle.build.specs.declared.creator.JoinRequestParts.{JoinRequestParts}
 use Rattle.build.proofs.FirstTest.{none-fails}
 
 -- ---- join-request
+
+pub request-parts : (j : JoinRequestParts) → (0 ∷ []) ++ j .«app_eui» ++ j .«dev_eui» ++ j .«dev_nonce» ≡ joinRequestBody j
+unfolding joinRequestBody
+request-parts j = refl
 
 module _ (j : JoinRequestParts) (ha : length (j .«app_eui») ≡ 8) (hd : length (j .«dev_eui») ≡ 8) (hn : length (j .«dev_nonce») ≡ 2) where
   pub request-written : joinRequestBody j ≡ 0 ∷ tab 8 (at (j .«app_eui»)) ++ tab 8 (at (j .«dev_eui»)) ++ tab 2 (at (j .«dev_nonce»))
@@ -71,6 +75,16 @@ module _ (j : JoinAcceptParts) (hn : length (j .«app_nonce») ≡ 3) (hi : leng
       by-flag false = refl
 
 -- ---- the channels
+
+pub list-written : (channels : List ℕ) → cfListBytes channels ≡ tab 16 (listByte channels)
+unfolding cfListBytes
+list-written channels = refl
+
+pub byte-within : (channels : List ℕ) (i : ℕ) → i < 15 → at (frequencyBytes (at channels (i / 3))) (i % 3) ≡ listByte channels i
+byte-within channels i h = ap (λ (b : Bool). pick b (at (frequencyBytes (at channels (i / 3))) (i % 3)) 0) (sym (lt-ltb i 15 h))
+
+pub byte-past : (channels : List ℕ) (i : ℕ) → 15 ≤ i → 0 ≡ listByte channels i
+byte-past channels i h = ap (λ (b : Bool). pick b (at (frequencyBytes (at channels (i / 3))) (i % 3)) 0) (sym (le-ltb i 15 h))
 
 module _ (cs : List ℕ) (i : ℕ) where
   pub high-found : i < length cs → 16777215 < at cs i → tooHigh (drop i cs) ≡ true
