@@ -50,12 +50,20 @@ pub signed-long : (key msg : List ℕ) → length (signed key msg) ≡ length ms
 unfolding signed
 signed-long key msg = length-append msg (joinMic key msg) ∙ ap (λ (n : ℕ). length msg + n) (joinMic-long key msg)
 
-pub signed-put : (key : List ℕ) {msg mic l d e : List ℕ} {n r : ℕ} → Put l 0 msg n d → mic ≡ joinMic key msg → Put d n mic r e
+-- a MIC takes four bytes
+pub mic-next : (key msg : List ℕ) {l e : List ℕ} {n r : ℕ} → Put l n (joinMic key msg) r e → r ≡ n + 4
+mic-next key msg {n = n} p = p .next ∙ ap (λ (k : ℕ). n + k) (joinMic-long key msg)
+
+-- the message is stored, and behind it the MIC of what then stands there
+pub signed-put : (key : List ℕ) {msg l d e : List ℕ} {n r : ℕ} → Put l 0 msg n d → Put d n (joinMic key (take n d)) r e
     → length msg + 4 ≤ length l → (r ≡ length (signed key msg)) × (e ≡ signed key msg ++ drop (length (signed key msg)) l)
 unfolding signed
-signed-put key {msg} {mic} {l} {d} {e} {n} {r} p h q room =
+signed-put key {msg} {l} {d} {e} {n} {r} p q room =
+    let end : n ≡ length msg = p .next ∙ omega arith in
+    let front : take n d ≡ msg =
+    ap (take n) (put-front p (omega arith)) ∙ take-at msg (drop (length msg) l) n (sym end) in
     let w : Put l 0 (signed key msg) r e =
-    subst (λ (t : List ℕ). Put l 0 (msg ++ t) r e) h (then p q) in
+    subst (λ (t : List ℕ). Put l 0 (msg ++ joinMic key t) r e) front (then p q) in
     let s : length (signed key msg) ≡ length msg + 4 = signed-long key msg in
     (w .next ∙ omega arith, put-front w (omega arith))
 
@@ -153,20 +161,16 @@ encrypted-in-place key clear l o e b end ho hend h hb he =
     )
 
 -- the clear bytes are stored, the MIC behind them, and the blocks deciphered
-pub accept-built : (key msg mic l o1 o2 w b e : List ℕ) {n : ℕ} (end : ℕ) → Put l 0 msg n o1 → mic ≡ joinMic key (take n o1)
-    → Put o1 n mic end o2 → length msg + 4 ≤ length l → w ≡ keyExpansion key
-    → b ≡ eachBlock (invCipher w) (length (part 1 (end - 1) o2) / 16) (part 1 (end - 1) o2)
+pub accept-built : (key msg l o1 o2 b e : List ℕ) {n : ℕ} (end : ℕ) → Put l 0 msg n o1
+    → Put o1 n (joinMic key (take n o1)) end o2 → length msg + 4 ≤ length l
+    → b ≡ eachBlock (invCipher (keyExpansion key)) (length (part 1 (end - 1) o2) / 16) (part 1 (end - 1) o2)
     → e ≡ take 1 o2 ++ (b ++ drop (end - 1) (drop 1 o2))
     → (end ≡ length (acceptEncrypted key (signed key msg)))
     × (e ≡ acceptEncrypted key (signed key msg) ++ drop (length (acceptEncrypted key (signed key msg))) l)
-accept-built key msg mic l o1 o2 w b e {n} end p hm q room hw hb he =
-    let nl : n ≡ length msg = p .next ∙ omega arith in
-    let o1-is : o1 ≡ msg ++ drop (length msg) l = put-front p (omega arith) in
-    let front : take n o1 ≡ msg = ap (take n) o1-is ∙ take-at msg (drop (length msg) l) n (sym nl) in
-    let s = signed-put key p (hm ∙ ap (joinMic key) front) q room in
+accept-built key msg l o1 o2 b e {n} end p q room hb he =
+    let s = signed-put key p q room in
     let long : length (signed key msg) ≡ length msg + 4 = signed-long key msg in
-    encrypted-in-place key (signed key msg) l o2 e b end (s .1) (s .0) (omega arith)
-    (hb ∙ ap (λ (v : List ℕ). eachBlock (invCipher v) (length (part 1 (end - 1) o2) / 16) (part 1 (end - 1) o2)) hw) he
+    encrypted-in-place key (signed key msg) l o2 e b end (s .1) (s .0) (omega arith) hb he
 
 -- ---- a built data frame is as long as its parts say
 

@@ -102,6 +102,10 @@ cfListBytes channels =
     frequencyBytes (at channels 0) ++ frequencyBytes (at channels 1) ++ frequencyBytes (at channels 2)
     ++ frequencyBytes (at channels 3) ++ frequencyBytes (at channels 4) ++ 0 ∷ []
 
+-- its byte at an index: three of each frequency
+abbrev pub listByte : List ℕ → ℕ → ℕ
+listByte channels i = pick (ltb i 15) (at (frequencyBytes (at channels (i / 3))) (i % 3)) 0
+
 -- MHDR, AppNonce, NetID, DevAddr, DLSettings and RxDelay
 unfoldable pub acceptHead : JoinAcceptParts → List ℕ
 acceptHead j = 32 ∷ (j .«app_nonce» ++ j .«net_id» ++ j .«dev_addr» ++ j .«dl_settings» ∷ j .«rx_delay» ∷ [])

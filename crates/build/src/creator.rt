@@ -19,13 +19,28 @@ ghost use lib.ListN.{length, take, drop};
 ghost use lib.Seq.{sets};
 ghost use Rattle.base.specs.Bytes.{at, part};
 ghost use Rattle.base.proofs.Put.{Put};
-ghost use Rattle.aes.specs.Fips197.{invCipher};
+ghost use Rattle.aes.specs.Fips197.{keyExpansion, invCipher};
 ghost use Rattle.secure.specs.JoinAccept.{eachBlock};
-ghost use Rattle.build.specs.Building.{acceptHead, bodyOf, cfListBytes, clearData, dataRefusal, fixedHeader, frequencyBytes, joinAcceptBody, joinAcceptLength, joinAcceptRefusal, joinRequestBody, joinRequestRefusal, mhdrOf, tooHigh};
+ghost use Rattle.build.specs.Building.{acceptHead, bodyOf, cfListBytes, clearData, dataRefusal, fixedHeader, frequencyBytes, joinAcceptBody, joinAcceptLength, joinAcceptRefusal, joinRequestRefusal, listByte, mhdrOf, tooHigh};
 ghost use Rattle.build.specs.Frames.{Builds, dataFrame, joinAccept, joinRequest};
 ghost use Rattle.secure.specs.Sealing.{payloadKey, sealed};
-ghost use Rattle.secure.specs.Security.{cryptedPart};
+ghost use Rattle.secure.specs.Security.{cryptedPart, joinMic};
 ghost use Rattle.build.specs.Cases.{absentRefusal, portRefusal};
+
+// The refusals of building, by document 01's numbers.
+const BUFFER_TOO_SHORT: u8 = 7;
+
+const INVALID_CHANNEL_LIST: u8 = 8;
+
+const MAC_COMMAND_TOO_BIG_FOR_FOPTS: u8 = 9;
+
+const DATA_AND_MAC_COMMANDS_IN_PAYLOAD: u8 = 10;
+
+const FRM_PAYLOAD_WITH_FPORT_ZERO: u8 = 11;
+
+const FRAME_TOO_LONG: u8 = 12;
+
+const FOPTS_LEN_SET: u8 = 13;
 
 // What building gives: the length of the frame that now stands at the start of the output, or a refusal by its number
 // and place.
@@ -103,16 +118,31 @@ fn fixed_header(d: DataParts, fopts: u8) -> [u8; 8]
     [first, a[0], a[1], a[2], a[3], control, low, high]
 }
 
-// Stores the parts of a frame one after another from the start of out, and answers the place past them.
-fn put_parts(out: &mut [u8], head: [u8; 8], fopts: &[u8], port: &[u8], body: &[u8]) -> usize
-    requires { ⌜ 8 + length (now fopts) + length (now port) + length (now body) ≤ length (now out) ⌝ }
+// Stores four parts one after another from the start of out, and answers the place past them.
+fn put_parts(out: &mut [u8], first: &[u8], second: &[u8], third: &[u8], fourth: &[u8]) -> usize
+    requires { ⌜ length (now first) + length (now second) + length (now third) + length (now fourth) ≤ length (now out) ⌝ }
     ensures { λ r.
-        ⌜ Put (now (out .entry)) 0 (head ++ now (fopts .entry) ++ now (port .entry) ++ now (body .entry)) r (now (out .exit)) ⌝ }
+        ⌜ Put (now (out .entry)) 0 (now (first .entry) ++ now (second .entry) ++ now (third .entry) ++ now (fourth .entry)) r
+        (now (out .exit)) ⌝ }
 {
-    let a = put(out, 0, &head);
-    let b = put(out, a, fopts);
-    let c = put(out, b, port);
-    put(out, c, body)
+    let a = put(out, 0, first);
+    let b = put(out, a, second);
+    let c = put(out, b, third);
+    put(out, c, fourth)
+}
+
+// The header's eight bytes, FOpts, the port byte if there is one and the payload, from the start of out.
+fn put_frame(d: DataParts, fopts: &[u8], port: &[u8], body: &[u8], out: &mut [u8]) -> usize
+    requires { ⌜
+        (d .fctrl % 16 ≡ 0) × (length (now fopts) < 16)
+        × (8 + length (now fopts) + length (now port) + length (now body) ≤ length (now out)) ⌝ }
+    ensures { λ r.
+        ⌜ Put (now (out .entry)) 0
+        (fixedHeader d (length (now (fopts .entry))) ++ now (fopts .entry) ++ now (port .entry) ++ now (body .entry)) r
+        (now (out .exit)) ⌝ }
+{
+    let head = fixed_header(d, fopts.len() as u8);
+    put_parts(out, &head, fopts, port, body)
 }
 
 // The refusal of data building by its number, 0 where there is none. A length is compared with the longest frame before
@@ -121,10 +151,10 @@ fn data_refusal(d: DataParts, commands: &[u8], payload: &[u8], room: usize) -> u
     ensures { λ r. ⌜ r ≡ dataRefusal d (now (commands .entry)) (now (payload .entry)) room ⌝ }
 {
     if room < PHY_PAYLOAD_MAX_LEN {
-        return 7;
+        return BUFFER_TOO_SHORT;
     }
     if d.fctrl % 16 != 0 {
-        return 13;
+        return FOPTS_LEN_SET;
     }
     let port = d.port;
     match port {
@@ -138,10 +168,10 @@ fn without_port(commands: usize, payload: usize) -> u8
     ensures { λ r. ⌜ r ≡ absentRefusal commands payload ⌝ }
 {
     if FOPTS_MAX_LEN < commands {
-        return 9;
+        return MAC_COMMAND_TOO_BIG_FOR_FOPTS;
     }
     if 0 < payload {
-        return 11;
+        return FRM_PAYLOAD_WITH_FPORT_ZERO;
     }
     0
 }
@@ -152,18 +182,18 @@ fn with_port(port: u8, commands: usize, payload: usize) -> u8
 {
     if port == 0 {
         if 0 < payload {
-            return 10;
+            return DATA_AND_MAC_COMMANDS_IN_PAYLOAD;
         }
-        return if 242 < commands { 12 } else { 0 };
+        return if 242 < commands { FRAME_TOO_LONG } else { 0 };
     }
     if FOPTS_MAX_LEN < commands {
-        return 9;
+        return MAC_COMMAND_TOO_BIG_FOR_FOPTS;
     }
     if PHY_PAYLOAD_MAX_LEN < payload {
-        return 12;
+        return FRAME_TOO_LONG;
     }
     if PHY_PAYLOAD_MAX_LEN < 13 + commands + payload {
-        return 12;
+        return FRAME_TOO_LONG;
     }
     0
 }
@@ -175,50 +205,15 @@ fn fill(d: DataParts, commands: &[u8], payload: &[u8], out: &mut [u8]) -> usize
 {
     let port = d.port;
     match port {
-        FPort::Absent => {
-            let head = fixed_header(d, commands.len() as u8);
-            put_parts(out, head, commands, &payload[..0], payload)
-        }
+        FPort::Absent => put_frame(d, commands, &payload[..0], payload, out),
         FPort::Port(p) => {
-            let bytes = [p];
+            let byte = [p];
             if p == 0 {
-                let head = fixed_header(d, 0);
-                return put_parts(out, head, &commands[..0], &bytes, commands);
+                return put_frame(d, &commands[..0], &byte, commands, out);
             }
-            let head = fixed_header(d, commands.len() as u8);
-            put_parts(out, head, commands, &bytes, payload)
+            put_frame(d, commands, &byte, payload, out)
         }
     }
-}
-
-// All of a join-request but its MIC (6.2.4).
-fn request_body(j: JoinRequestParts) -> [u8; 19]
-    ensures { λ r. ⌜ r ≡ joinRequestBody j ⌝ }
-{
-    let a = j.app_eui;
-    let d = j.dev_eui;
-    let n = j.dev_nonce;
-    [
-        0,
-        a[0],
-        a[1],
-        a[2],
-        a[3],
-        a[4],
-        a[5],
-        a[6],
-        a[7],
-        d[0],
-        d[1],
-        d[2],
-        d[3],
-        d[4],
-        d[5],
-        d[6],
-        d[7],
-        n[0],
-        n[1],
-    ]
 }
 
 // MHDR, AppNonce, NetID, DevAddr, DLSettings and RxDelay of a join-accept (6.2.5).
@@ -266,33 +261,28 @@ fn frequency_at(channels: &[u32], i: usize) -> [u8; 3]
     [low, middle, high]
 }
 
+// The byte of a list at an index: three of each channel, then the list's type 0.
+fn list_byte(channels: &[u32], i: usize) -> u8
+    ensures { λ r. ⌜ r ≡ listByte (now (channels .entry)) i ⌝ }
+{
+    if i < 15 {
+        let frequency = frequency_at(channels, i / 3);
+        return frequency[i % 3];
+    }
+    0
+}
+
 // Five channels, absent ones 0, and the list's type 0.
 fn cf_list_bytes(channels: &[u32]) -> [u8; 16]
     ensures { λ r. ⌜ r ≡ cfListBytes (now (channels .entry)) ⌝ }
 {
-    let a = frequency_at(channels, 0);
-    let b = frequency_at(channels, 1);
-    let c = frequency_at(channels, 2);
-    let d = frequency_at(channels, 3);
-    let e = frequency_at(channels, 4);
-    [
-        a[0],
-        a[1],
-        a[2],
-        b[0],
-        b[1],
-        b[2],
-        c[0],
-        c[1],
-        c[2],
-        d[0],
-        d[1],
-        d[2],
-        e[0],
-        e[1],
-        e[2],
-        0,
-    ]
+    let mut r = [0u8; 16];
+    let mut i: usize = 0;
+    while i < 16 {
+        r[i] = list_byte(channels, i);
+        i += 1;
+    }
+    r
 }
 
 // Whether a channel does not fit 24 bits.
@@ -315,18 +305,22 @@ fn join_accept_refusal(j: JoinAcceptParts, channels: &[u32], room: usize) -> u8
 {
     if j.with_c_f_list {
         if 5 < channels.len() {
-            return 8;
+            return INVALID_CHANNEL_LIST;
         }
         if too_high(channels) {
-            return 8;
+            return INVALID_CHANNEL_LIST;
         }
         return if room < JOIN_ACCEPT_WITH_CFLIST_LEN {
-            7
+            BUFFER_TOO_SHORT
         } else {
             0
         };
     }
-    if room < JOIN_ACCEPT_LEN { 7 } else { 0 }
+    if room < JOIN_ACCEPT_LEN {
+        BUFFER_TOO_SHORT
+    } else {
+        0
+    }
 }
 
 // The sixteen bytes from `from` on.
@@ -356,15 +350,16 @@ fn decrypt_block(schedule: &[u8; 176], bytes: &mut [u8], from: usize)
 }
 
 // AES decryption of each whole block of sixteen bytes, where it lies.
-fn decrypt_blocks(schedule: &[u8; 176], bytes: &mut [u8])
+fn decrypt_blocks(key: [u8; 16], bytes: &mut [u8])
     ensures { λ _.
         ⌜ now (bytes .exit)
-        ≡ eachBlock (invCipher (now (schedule .entry))) (length (now (bytes .entry)) / 16) (now (bytes .entry)) ⌝ }
+        ≡ eachBlock (invCipher (keyExpansion key)) (length (now (bytes .entry)) / 16) (now (bytes .entry)) ⌝ }
 {
+    let schedule = aes::expand(key);
     let n = bytes.len() / 16;
     let mut k: usize = 0;
     while k < n {
-        decrypt_block(schedule, bytes, k * 16);
+        decrypt_block(&schedule, bytes, k * 16);
         k += 1;
     }
 }
@@ -455,6 +450,17 @@ pub fn build_data(
     Built::Frame(end + MIC_LEN)
 }
 
+// Stores the MIC of a join message's first n bytes behind them, and answers the place past it.
+fn sign(out: &mut [u8], n: usize, app_key: [u8; 16]) -> usize
+    requires { ⌜ (13 ≤ n) × (n + 4 ≤ length (now out)) ⌝ }
+    ensures { λ r. ⌜ Put (now (out .entry)) n (joinMic «app_key» (take n (now (out .entry)))) r (now (out .exit)) ⌝ }
+{
+    let mic = calculate_mic(app_key, &out[..n]);
+    put(out, n, &mic)
+}
+
+const JOIN_REQUEST_MHDR: u8 = 0;
+
 // Builds a join-request (6.2.4) at the start of out.
 pub fn build_join_request(j: JoinRequestParts, app_key: [u8; 16], out: &mut [u8]) -> Built
     ensures { λ r.
@@ -462,13 +468,15 @@ pub fn build_join_request(j: JoinRequestParts, app_key: [u8; 16], out: &mut [u8]
         (now (out .exit)) ⌝ }
 {
     if out.len() < JOIN_REQUEST_LEN {
-        return Built::Refused(7, 0);
+        return Built::Refused(BUFFER_TOO_SHORT, 0);
     }
-    let body = request_body(j);
-    let mic = calculate_mic(app_key, &body);
-    let a = put(out, 0, &body);
-    let n = put(out, a, &mic);
-    Built::Frame(n)
+    let first = [JOIN_REQUEST_MHDR];
+    let app_eui = j.app_eui;
+    let dev_eui = j.dev_eui;
+    let dev_nonce = j.dev_nonce;
+    let n = put_parts(out, &first, &app_eui, &dev_eui, &dev_nonce);
+    let past = sign(out, n, app_key);
+    Built::Frame(past)
 }
 
 // The clear join-accept without its MIC, from the start of out; answers its length.
@@ -501,9 +509,7 @@ pub fn build_join_accept(
         return Built::Refused(refusal, 0);
     }
     let n = fill_accept(j, channels, out);
-    let mic = calculate_mic(app_key, &out[..n]);
-    let end = put(out, n, &mic);
-    let schedule = aes::expand(app_key);
-    decrypt_blocks(&schedule, &mut out[1..end]);
+    let end = sign(out, n, app_key);
+    decrypt_blocks(app_key, &mut out[1..end]);
     Built::Frame(end)
 }

@@ -18,8 +18,12 @@ fieldsOf first n v =
     (first / 32) ∷ v .fctrl ∷ (v .fcnt % 256) ∷ (v .fcnt / 256) ∷ (v .«fopts_end» % 256) ∷ pick (v .«port_given») 1 0
     ∷ v .port ∷ v .«payload_kind» ∷ (v .«payload_from» % 256) ∷ (v .«payload_to» % 256) ∷ ((n - 4) % 256) ∷ (n % 256) ∷ []
 
--- what reading the frame f promises, of its answer r and the output e, which was l: a refusal of the reader, 7 where there
--- is no room, or these bytes
+-- what storing the values v of a reading of f promises, of its answer r and the output e, which was l: the refusal among
+-- them, 7 where there is no room, or these bytes
+abbrev pub FieldsInto : Values → List ℕ → List ℕ → ℕ → List ℕ → Type 0
+FieldsInto v f l r e = Fills (orShort (v .number) 12 (length l)) (v .place) (fieldsOf (at f 0) (length f) v) l r e
+
+-- the same of reading the frame: a refusal of the reader, 7 where there is no room, or these bytes
 abbrev pub ReadInto : List ℕ → List ℕ → ℕ → List ℕ → Type 0
 ReadInto f l r e =
     Fills (orShort (numberOf (readOf f)) 12 (length l)) (placeOf (readOf f))

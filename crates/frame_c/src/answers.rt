@@ -1,6 +1,5 @@
 // Answers as one number each.
 ghost use mathlib.Core.Path.{_≡_};
-ghost use Rattle.secure.specs.Opening.{testNumber, testPlace, openingNumber, openingPlace};
 ghost use Rattle.frame_c.specs.Answers.{answerOf, testAnswer, passesOf, openingAnswer};
 use secure::payload::MicTest;
 use secure::payload::Opening;
@@ -12,63 +11,29 @@ pub(crate) fn answer(number: u8, value: usize) -> u64
     (number as u64) + (value as u64) % 65536 * 256
 }
 
-fn test_number(test: MicTest) -> u8
-    ensures { λ r. ⌜ r ≡ testNumber test ⌝ }
-{
-    match test {
-        MicTest::Passes => 0,
-        MicTest::Fails => 0,
-        MicTest::Refused(n, _) => n,
-    }
-}
-
-fn test_place(test: MicTest) -> usize
-    ensures { λ r. ⌜ r ≡ testPlace test ⌝ }
-{
-    match test {
-        MicTest::Passes => 0,
-        MicTest::Fails => 0,
-        MicTest::Refused(_, p) => p,
-    }
-}
-
-pub(crate) fn test_answer(test: MicTest) -> u64
+// The answer of a MIC test. passes becomes 1 or 0; where the test is refused it stays.
+pub(crate) fn test_answer(test: MicTest, passes: &mut u8) -> u64
     ensures { λ r. ⌜ r ≡ testAnswer test ⌝ }
-{
-    answer(test_number(test), test_place(test))
-}
-
-// 1 or 0; where the test is refused, what was there.
-pub(crate) fn passes_of(test: MicTest, was: u8) -> u8
-    ensures { λ r. ⌜ r ≡ passesOf test was ⌝ }
+    ensures { λ _. ⌜ now (passes .exit) ≡ passesOf test (now (passes .entry)) ⌝ }
 {
     match test {
-        MicTest::Passes => 1,
-        MicTest::Fails => 0,
-        MicTest::Refused(_, _) => was,
-    }
-}
-
-fn opening_number(opening: Opening) -> u8
-    ensures { λ r. ⌜ r ≡ openingNumber opening ⌝ }
-{
-    match opening {
-        Opening::Opened => 0,
-        Opening::Refused(n, _) => n,
-    }
-}
-
-fn opening_place(opening: Opening) -> usize
-    ensures { λ r. ⌜ r ≡ openingPlace opening ⌝ }
-{
-    match opening {
-        Opening::Opened => 0,
-        Opening::Refused(_, p) => p,
+        MicTest::Passes => {
+            *passes = 1;
+            answer(0, 0)
+        }
+        MicTest::Fails => {
+            *passes = 0;
+            answer(0, 0)
+        }
+        MicTest::Refused(n, p) => answer(n, p),
     }
 }
 
 pub(crate) fn opening_answer(opening: Opening) -> u64
     ensures { λ r. ⌜ r ≡ openingAnswer opening ⌝ }
 {
-    answer(opening_number(opening), opening_place(opening))
+    match opening {
+        Opening::Opened => answer(0, 0),
+        Opening::Refused(n, p) => answer(n, p),
+    }
 }

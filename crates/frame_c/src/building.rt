@@ -4,7 +4,7 @@ ghost use lib.Dec.{eqb};
 ghost use lib.ListN.{length};
 ghost use Rattle.build.specs.Building.{joinRequestRefusal, joinAcceptRefusal};
 ghost use Rattle.build.specs.Frames.{joinRequest, joinAccept, dataFrame};
-ghost use Rattle.frame_c.specs.Answers.{builtNumber, builtValue, builtAnswer, Builds};
+ghost use Rattle.frame_c.specs.Answers.{builtAnswer, Builds};
 ghost use Rattle.frame_c.specs.Given.{requestParts, acceptParts, portOf, dataParts, dataRefused};
 use crate::answers::answer;
 use build::creator::Built;
@@ -15,28 +15,13 @@ use control::is_confirmed;
 use control::is_uplink;
 use frame::parser::FPort;
 
-fn built_number(built: Built) -> u8
-    ensures { λ r. ⌜ r ≡ builtNumber built ⌝ }
-{
-    match built {
-        Built::Frame(_) => 0,
-        Built::Refused(n, _) => n,
-    }
-}
-
-fn built_value(built: Built) -> usize
-    ensures { λ r. ⌜ r ≡ builtValue built ⌝ }
-{
-    match built {
-        Built::Frame(n) => n,
-        Built::Refused(_, p) => p,
-    }
-}
-
 fn built_answer(built: Built) -> u64
     ensures { λ r. ⌜ r ≡ builtAnswer built ⌝ }
 {
-    answer(built_number(built), built_value(built))
+    match built {
+        Built::Frame(n) => answer(0, n),
+        Built::Refused(n, p) => answer(n, p),
+    }
 }
 
 #[no_mangle]

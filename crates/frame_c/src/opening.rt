@@ -6,11 +6,11 @@ ghost use Rattle.frame_c.specs.Fields.{KeysInto};
 ghost use Rattle.frame_c.specs.Given.{nwkGiven, appGiven};
 use crate::answers::answer;
 use crate::answers::opening_answer;
-use crate::answers::passes_of;
 use crate::answers::test_answer;
 use crate::storing::or_short;
 use crate::storing::put;
 use frame::keys::MaybeKey;
+use secure::payload::SessionKeys;
 
 #[no_mangle]
 pub extern "C" fn zinovoky_join_request_mic(
@@ -25,9 +25,7 @@ pub extern "C" fn zinovoky_join_request_mic(
 {
     let key = *app_key;
     let test = secure::payload::join_request_mic(frame, key);
-    let was = *passes;
-    *passes = passes_of(test, was);
-    test_answer(test)
+    test_answer(test, passes)
 }
 
 #[no_mangle]
@@ -39,9 +37,7 @@ pub extern "C" fn zinovoky_join_accept_mic(frame: &[u8], app_key: &[u8; 16], pas
 {
     let key = *app_key;
     let test = secure::payload::join_accept_mic(frame, key);
-    let was = *passes;
-    *passes = passes_of(test, was);
-    test_answer(test)
+    test_answer(test, passes)
 }
 
 #[no_mangle]
@@ -58,28 +54,7 @@ pub extern "C" fn zinovoky_data_mic(
 {
     let key = *nwk_skey;
     let test = secure::payload::data_mic(frame, key, counter);
-    let was = *passes;
-    *passes = passes_of(test, was);
-    test_answer(test)
-}
-
-// The network key, and the application key, by whether they are given.
-fn nwk_given(keys: u8, key: [u8; 16]) -> MaybeKey
-    ensures { λ r. ⌜ r ≡ nwkGiven keys key ⌝ }
-{
-    MaybeKey {
-        given: keys % 2 == 1,
-        key,
-    }
-}
-
-fn app_given(keys: u8, key: [u8; 16]) -> MaybeKey
-    ensures { λ r. ⌜ r ≡ appGiven keys key ⌝ }
-{
-    MaybeKey {
-        given: keys / 2 % 2 == 1,
-        key,
-    }
+    test_answer(test, passes)
 }
 
 #[no_mangle]
@@ -102,8 +77,14 @@ pub extern "C" fn zinovoky_decrypt_data(
 {
     let nwk_key = *nwk_skey;
     let app_key = *app_skey;
-    let nwk = nwk_given(keys_given, nwk_key);
-    let app = app_given(keys_given, app_key);
+    let nwk = MaybeKey {
+        given: keys_given % 2 == 1,
+        key: nwk_key,
+    };
+    let app = MaybeKey {
+        given: keys_given / 2 % 2 == 1,
+        key: app_key,
+    };
     let opening = secure::payload::decrypt_data(frame, nwk, app, counter);
     opening_answer(opening)
 }
@@ -128,7 +109,10 @@ pub extern "C" fn zinovoky_decrypt_data_checked(
 {
     let nwk_key = *nwk_skey;
     let app_key = *app_skey;
-    let app = app_given(keys_given, app_key);
+    let app = MaybeKey {
+        given: keys_given / 2 % 2 == 1,
+        key: app_key,
+    };
     let opening = secure::default_crypto::decrypt_data_checked(frame, nwk_key, app, counter);
     opening_answer(opening)
 }
@@ -155,6 +139,22 @@ pub extern "C" fn zinovoky_decrypt_join_accept_checked(frame: &mut [u8], app_key
 
 pub(crate) const KEYS_LEN: usize = 32;
 
+// Stores two session keys that are derived, where there is room for them.
+fn store_keys(session: SessionKeys, keys: &mut [u8]) -> u64
+    ensures { λ r. ⌜ KeysInto session (now (keys .entry)) r (now (keys .exit)) ⌝ }
+{
+    let place = session.place;
+    let refusal = or_short(session.number, KEYS_LEN, keys.len());
+    if refusal != 0 {
+        return answer(refusal, place);
+    }
+    let nwk_skey = session.nwk_skey;
+    let app_skey = session.app_skey;
+    let end = put(keys, 0, &nwk_skey);
+    put(keys, end, &app_skey);
+    answer(0, place)
+}
+
 #[no_mangle]
 pub extern "C" fn zinovoky_session_keys(
     frame: &[u8],
@@ -169,14 +169,5 @@ pub extern "C" fn zinovoky_session_keys(
     let nonce = *dev_nonce;
     let key = *app_key;
     let session = secure::payload::session_keys(frame, nonce, key);
-    let place = session.place;
-    let refusal = or_short(session.number, KEYS_LEN, keys.len());
-    if refusal != 0 {
-        return answer(refusal, place);
-    }
-    let nwk_skey = session.nwk_skey;
-    let app_skey = session.app_skey;
-    let end = put(keys, 0, &nwk_skey);
-    put(keys, end, &app_skey);
-    answer(0, place)
+    store_keys(session, keys)
 }

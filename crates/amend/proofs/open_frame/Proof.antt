@@ -4,7 +4,7 @@ use mathlib.Core.List.{[], _∷_}
 use denote.Enum.Declared.{tagOf}
 use types.Run.{OneOf}
 use borrow.Author.Needs.{needs}
-use Rattle.frame.specs.Numbers.{otherNumber, placeOf}
+use Rattle.numbers.specs.Numbers.{otherNumber, placeOf}
 use Rattle.frame.specs.Reading.{readOf}
 use Rattle.frame.specs.declared.parser.Reading.{Reading}
 use Rattle.frame.specs.declared.parser.Reading.the-variants.{Data}

@@ -1,60 +1,42 @@
--- `build_join_request` meets its contract: body and MIC are stored one after the other.
+-- `build_join_request` meets its contract: the fields are stored one after another, and the MIC behind them.
 -- Assumes nothing.
-use mathlib.Core.Path.{_≡_, refl, sym, ap, _∙_}
+use mathlib.Core.Path.{_≡_, refl}
 use native.Mathlib.Omega.{arith}
-use Rattle.base.proofs.Put.{renamed}
-use Rattle.secure.specs.Security.{joinMic}
+use lib.ListN.{length}
+use Rattle.base.proofs.Put.{renamed, put-length}
+use Rattle.build.specs.Building.{joinRequestBody}
 use Rattle.build.proofs.BuiltLaws.{refused, built, signed-put}
-use Rattle.build.proofs.JoinBodies.{request-refused, request-accepted, length-request, seven}
+use Rattle.build.proofs.JoinBodies.{request-refused, request-accepted, request-parts, length-request, seven}
 use borrow.Author.Needs.{needs}
 use Rattle.build.proofs.creator.build_join_request.Statement.{statement}
 use Rattle.build.proofs.creator.build_join_request.Tie as tie
 
+sizes : (c : tie.Start)
+    → (length (c .args .j .«app_eui») ≡ 8) × (length (c .args .j .«dev_eui») ≡ 8) × (length (c .args .j .«dev_nonce») ≡ 2)
+sizes c = (search needs, search needs, search needs)
+
+long : (c : tie.Start) → length (joinRequestBody (c .args .j)) ≡ 19
+long c = length-request (c .args .j) (sizes c .0) (sizes c .1) (sizes c .2)
+
 returns : tie.Need-returns
 returns c = refused (request-refused _ (c .if1 .taken)) seven
 
-request-body-requires : tie.Need-request-body-requires
-request-body-requires c κs = search needs
+put-parts-requires : tie.Need-put-parts-requires
+put-parts-requires c κs = omega (arith, sizes (c .before .before .before .before .before .before .before .before .before .before), c .before .before .before .before .before .before .before .before .if1 .left)
 
-slice-aggregate-calculate-mic : tie.Need-slice-aggregate-calculate-mic
-slice-aggregate-calculate-mic c = search needs
-
-calculate-mic-requires : tie.Need-calculate-mic-requires
-calculate-mic-requires c κs = search needs
-
-slice-aggregate-put : tie.Need-slice-aggregate-put
-slice-aggregate-put c = search needs
-
-put-requires : tie.Need-put-requires
-put-requires c κs = search needs
-
-slice-aggregate-put-2 : tie.Need-slice-aggregate-put-2
-slice-aggregate-put-2 c = search needs
-
-put-requires-2 : tie.Need-put-requires-2
-put-requires-2 c κs = search needs
-
-same-length : tie.Need-same-length
-same-length c = search needs
+sign-requires : tie.Need-sign-requires
+sign-requires c κs =
+    let stored = renamed (c .before .before .before .put-parts .ensures) (request-parts (c .before .before .before .before .before .before .before .before .before .before .before .before .before .before .args .j)) in
+    omega (arith, stored .next, put-length stored, long (c .before .before .before .before .before .before .before .before .before .before .before .before .before .before), c .before .before .before .before .before .before .before .before .before .before .before .before .if1 .left)
 
 returns-2 : tie.Need-returns-2
 returns-2 c =
-    let n = length-request (c .before .before .before .before .before .before .before .before .before .before .before .before .before .before .before .args .j) (search needs) (search needs) (search needs) in
-    built (request-accepted _ (c .before .before .before .before .before .before .before .before .before .before .before .before .before .if1 .left)) refl
-    (signed-put _ (renamed (c .before .before .before .before .before .before .before .put .ensures) (c .before .before .before .before .before .before .before .before .before .before .before .before .request-body .ensures)) (c .before .before .before .before .before .before .before .before .before .before .calculate-mic .ensures ∙ ap (joinMic _) (c .before .before .before .before .before .before .before .before .before .before .before .before .request-body .ensures)) (c .before .before .put2 .ensures)
-    (omega (arith, n, c .before .before .before .before .before .before .before .before .before .before .before .before .before .if1 .left)))
+    built (request-accepted _ (c .before .before .before .before .before .before .before .before .before .before .before .before .before .before .before .if1 .left)) refl
+    (signed-put _ (renamed (c .before .before .before .before .before .before .put-parts .ensures) (request-parts (c .before .before .before .before .before .before .before .before .before .before .before .before .before .before .before .before .before .args .j))) (c .before .before .sign .ensures)
+    (omega (arith, long (c .before .before .before .before .before .before .before .before .before .before .before .before .before .before .before .before .before), c .before .before .before .before .before .before .before .before .before .before .before .before .before .before .before .if1 .left)))
 
 pub build-join-request-spec : {M : Type 1} → statement M
 build-join-request-spec =
     tie.close
-    (tie.spec
-    returns
-    request-body-requires
-    slice-aggregate-calculate-mic
-    calculate-mic-requires
-    slice-aggregate-put
-    put-requires
-    slice-aggregate-put-2
-    put-requires-2
-    same-length
-    returns-2)
+    (tie.spec returns (λ c. search needs) (λ c. search needs) (λ c. search needs) (λ c. search needs) put-parts-requires
+    sign-requires (λ c. search needs) returns-2)

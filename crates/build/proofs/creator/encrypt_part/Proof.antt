@@ -5,6 +5,7 @@ use mathlib.Core.Path.{_≡_, ap, _∙_}
 use mathlib.Core.List.{List, _++_}
 use lib.ListN.{take, drop}
 use borrow.Author.Needs.{needs}
+use denote.Ref.{now}
 use Rattle.base.specs.Bytes.{part}
 use Rattle.base.proofs.Lent.{put-back}
 use Rattle.secure.specs.Security.{crypted, cryptedPart}
@@ -17,12 +18,14 @@ unfolding cryptedPart
 returns c =
     let start = c .before .before .before .before .before .before .before in
     let args = start .args in
-    let f = args .frame .now in
+    let f = now (args .frame) in
     let p = part (args .start) (args .end - args .start) f in
     let t = c .before .before .encrypt-frm-data-payload .last .1 .1 .1 .0 in
-    let done : t ≡ crypted (args .key) f (args .counter) p = cc (crypted-start (args .key) f (args .counter) p) in
     put-back (args .start) (args .end) f t (start .pre .0)
-    ∙ ap (λ (l : List ℕ). take (args .start) f ++ l ++ drop (args .end) f) done
+    ∙ ap (λ (l : List ℕ). take (args .start) f ++ l ++ drop (args .end) f)
+    (c .before .before .encrypt-frm-data-payload .ensures
+    ∙ ap (λ (s : List ℕ). crypted (args .key) s (args .counter) p) (c .before .before .before .before .start-of .ensures)
+    ∙ crypted-start (args .key) f (args .counter) p)
 
 pub encrypt-part-spec : {M : Type 1} → statement M
 encrypt-part-spec =

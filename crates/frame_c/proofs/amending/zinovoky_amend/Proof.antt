@@ -8,8 +8,7 @@ use Rattle.frame_c.proofs.amending.zinovoky_amend.Tie as tie
 
 returns : tie.Need-returns
 returns c =
-    let done = c .before .before .before .amend-frame .ensures in
-    (c .answer .ensures ∙ ap outcomeAnswer (done .0), done .1)
+    (c .answer .ensures ∙ ap outcomeAnswer (c .before .before .before .amend-frame .ensures .0), c .before .before .before .amend-frame .ensures .1)
 
 pub zinovoky-amend-spec : {M : Type 1} → statement M
 zinovoky-amend-spec = tie.close (tie.spec (λ c κs. search needs) (λ c κs. search needs) (λ c. search needs) returns)

@@ -1,0 +1,26 @@
+-- `store_fields` stores the twelve bytes where the reading is accepted and there is room, and else nothing.
+-- Assumes nothing.
+use borrow.Author.Needs.{needs}
+use mathlib.Core.Path.{_≡_}
+use native.Mathlib.Omega.{arith}
+use lib.ListN.{length}
+use Rattle.frame_c.proofs.Fillings.{room-left, refused, stored}
+use Rattle.frame_c.proofs.reading.store_fields.Statement.{statement}
+use Rattle.frame_c.proofs.reading.store_fields.Tie as tie
+
+twelve : (c : tie.After-field-bytes) → length (c .field-bytes .result) ≡ 12
+twelve c = search needs
+
+returns : tie.Need-returns
+returns c = refused (c .before .before .or-short .ensures) (c .before .if1 .taken) (c .answer .ensures)
+
+put-requires : tie.Need-put-requires
+put-requires c κs = omega (arith, room-left _ _ _ (c .before .before .before .before .or-short .ensures) (c .before .before .before .if1 .left), twelve (c .before .before))
+
+returns-2 : tie.Need-returns-2
+returns-2 c =
+    stored _ _ (c .before .before .before .before .before .before .before .before .or-short .ensures) (c .before .before .before .before .before .before .before .if1 .left) (twelve (c .before .before .before .before .before .before))
+    (c .before .before .before .before .before .before .field-bytes .ensures) (c .answer2 .ensures) (c .before .before .before .put .ensures)
+
+pub store-fields-spec : {M : Type 1} → statement M
+store-fields-spec = tie.close (tie.spec (λ c κs. search needs) (λ c κs. search needs) returns (λ c κs. search needs) (λ c. search needs) put-requires (λ c κs. search needs) (λ c. search needs) returns-2)
