@@ -33,7 +33,8 @@ use Rattle.secure.specs.Security.{startOf, helperBlock, dataMic}
 use Rattle.secure.proofs.SecurityLaws.{helperBlock-long, helperBlock-start, helperBlock-same}
 use Rattle.amend.specs.Amending.{state, lastBlock, chained, signedFrom}
 use Rattle.amend.specs.declared.Open.{Open}
-use Rattle.amend.specs.Opening.{held, covered, message, chainsOf, openedOf, refusedOpening, acceptedOpening, openChecked, openData, openOf}
+use Rattle.amend.specs.Opening.{held, chainsOf, openedOf, refusedOpening, acceptedOpening, openChecked, openData, openOf}
+use Rattle.secure.specs.Security.{covered, message}
 use Rattle.amend.proofs.Stores.{part-after, part-stored}
 use Rattle.amend.proofs.Chains.{Right, table-right, carried-table, block-behind, signed-right}
 

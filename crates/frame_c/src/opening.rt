@@ -1,6 +1,7 @@
 // MIC tests, decryption and session keys.
 ghost use mathlib.Core.Path.{_≡_};
-ghost use Rattle.secure.specs.Opening.{joinRequestTest, joinAcceptTest, dataTest, dataOpened, dataOpenedChecked, acceptOpened, acceptOpenedChecked, sessionKeys};
+ghost use Rattle.payload.specs.Opening.{joinRequestTest, joinAcceptTest, dataTest, dataOpened, acceptOpened, sessionKeys};
+ghost use Rattle.default_crypto.specs.Checked.{dataOpenedChecked, acceptOpenedChecked};
 ghost use Rattle.frame_c.specs.Answers.{testAnswer, passesOf, openingAnswer};
 ghost use Rattle.frame_c.specs.Fields.{KeysInto};
 ghost use Rattle.frame_c.specs.Given.{nwkGiven, appGiven};
@@ -10,7 +11,7 @@ use crate::answers::test_answer;
 use crate::storing::or_short;
 use crate::storing::put;
 use frame::keys::MaybeKey;
-use secure::payload::SessionKeys;
+use payload::SessionKeys;
 
 #[no_mangle]
 pub extern "C" fn zinovoky_join_request_mic(
@@ -24,7 +25,7 @@ pub extern "C" fn zinovoky_join_request_mic(
         ≡ passesOf (joinRequestTest (now («app_key» .entry)) (now (frame .entry))) (now (passes .entry)) ⌝ }
 {
     let key = *app_key;
-    let test = secure::payload::join_request_mic(frame, key);
+    let test = payload::join_request_mic(frame, key);
     test_answer(test, passes)
 }
 
@@ -36,7 +37,7 @@ pub extern "C" fn zinovoky_join_accept_mic(frame: &[u8], app_key: &[u8; 16], pas
         ≡ passesOf (joinAcceptTest (now («app_key» .entry)) (now (frame .entry))) (now (passes .entry)) ⌝ }
 {
     let key = *app_key;
-    let test = secure::payload::join_accept_mic(frame, key);
+    let test = payload::join_accept_mic(frame, key);
     test_answer(test, passes)
 }
 
@@ -53,7 +54,7 @@ pub extern "C" fn zinovoky_data_mic(
         ≡ passesOf (dataTest (now («nwk_skey» .entry)) counter (now (frame .entry))) (now (passes .entry)) ⌝ }
 {
     let key = *nwk_skey;
-    let test = secure::payload::data_mic(frame, key, counter);
+    let test = payload::data_mic(frame, key, counter);
     test_answer(test, passes)
 }
 
@@ -85,7 +86,7 @@ pub extern "C" fn zinovoky_decrypt_data(
         given: keys_given / 2 % 2 == 1,
         key: app_key,
     };
-    let opening = secure::payload::decrypt_data(frame, nwk, app, counter);
+    let opening = payload::decrypt_data(frame, nwk, app, counter);
     opening_answer(opening)
 }
 
@@ -113,7 +114,7 @@ pub extern "C" fn zinovoky_decrypt_data_checked(
         given: keys_given / 2 % 2 == 1,
         key: app_key,
     };
-    let opening = secure::default_crypto::decrypt_data_checked(frame, nwk_key, app, counter);
+    let opening = default_crypto::decrypt_data_checked(frame, nwk_key, app, counter);
     opening_answer(opening)
 }
 
@@ -123,7 +124,7 @@ pub extern "C" fn zinovoky_decrypt_join_accept(frame: &mut [u8], app_key: &[u8; 
     ensures { λ _. ⌜ now (frame .exit) ≡ acceptOpened (now («app_key» .entry)) (now (frame .entry)) .bytes ⌝ }
 {
     let key = *app_key;
-    let opening = secure::payload::decrypt_join_accept(frame, key);
+    let opening = payload::decrypt_join_accept(frame, key);
     opening_answer(opening)
 }
 
@@ -133,7 +134,7 @@ pub extern "C" fn zinovoky_decrypt_join_accept_checked(frame: &mut [u8], app_key
     ensures { λ _. ⌜ now (frame .exit) ≡ acceptOpenedChecked (now («app_key» .entry)) (now (frame .entry)) .bytes ⌝ }
 {
     let key = *app_key;
-    let opening = secure::default_crypto::decrypt_join_accept_checked(frame, key);
+    let opening = default_crypto::decrypt_join_accept_checked(frame, key);
     opening_answer(opening)
 }
 
@@ -168,6 +169,6 @@ pub extern "C" fn zinovoky_session_keys(
 {
     let nonce = *dev_nonce;
     let key = *app_key;
-    let session = secure::payload::session_keys(frame, nonce, key);
+    let session = payload::session_keys(frame, nonce, key);
     store_keys(session, keys)
 }
