@@ -2,7 +2,6 @@ pub mod Accepted
 pub mod Carrying
 pub mod Chains
 pub mod Demand3
-pub mod Determined
 pub mod Kept
 pub mod ListLaws
 pub mod OneByte

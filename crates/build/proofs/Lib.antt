@@ -1,6 +1,5 @@
 pub mod BuildingRefusals
 pub mod BuiltLaws
-pub mod Determined
 pub mod FirstTest
 pub mod Header
 pub mod JoinBodies

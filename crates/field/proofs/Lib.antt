@@ -1,4 +1,3 @@
-pub mod Determined
 pub mod FieldLaws
 pub mod Inverses
 pub mod Tables

@@ -1,4 +1,3 @@
-pub mod Determined
 pub mod LayoutLaws
 pub mod ReadingLaws
 pub mod ReadingSteps

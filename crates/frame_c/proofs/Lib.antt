@@ -1,4 +1,3 @@
 mod Buildings
-pub mod Determined
 mod Fillings
 mod Opened

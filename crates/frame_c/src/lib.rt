@@ -1,8 +1,8 @@
 // The codec for C and for whatever calls C: functions on numbers and byte slices, as `zinovoky.h` declares them. Each calls
 // the function that does the work and turns its answer into one number.
-mod amending;
+pub mod amending;
 mod answers;
-mod building;
-mod opening;
-mod reading;
+pub mod building;
+pub mod opening;
+pub mod reading;
 mod storing;

@@ -1,5 +1,4 @@
 pub mod Blocks
 pub mod DecryptionLaws
-pub mod Determined
 pub mod OpenedLaws
 pub mod OpeningLaws

@@ -1,5 +1,4 @@
 pub mod Described
-pub mod Determined
 pub mod Digits
 pub mod Examples
 pub mod Fields

@@ -11,7 +11,7 @@ use Rattle.aes.specs.Fips197.{row, subBytes, shiftRows, mixColumns, addRoundKey
 use Rattle.cmac.specs.Rfc4493.{shifted, doubled, subkey1, subkey2, chain, ahead, padded, lastBlock, closed, tag, mac, mic}
 use Rattle.frame.specs.Layout.{header}
 use Rattle.secure.specs.Sealing.{payloadKey, enciphered, sealed}
-use Rattle.secure.specs.Security.{helperBlock, streamAt, crypted, dataMic}
+use Rattle.secure.specs.Security.{helperBlock, streamAt, crypted, message, dataMic}
 
 -- both keys, for which the example key of both standards serves
 abbrev pub key : List ℕ
@@ -26,9 +26,9 @@ abbrev pub frameOf : ℕ → List ℕ
 frameOf v = sealed key key 0 (header template) (v ∷ [])
 
 pub frame-of-1 : frameOf 1 ≡ 0x40 ∷ 1 ∷ 2 ∷ 3 ∷ 4 ∷ 0 ∷ 0 ∷ 0 ∷ 1 ∷ 0x51 ∷ 0xaa ∷ 0x9b ∷ 0x1d ∷ 0xa8 ∷ []
-unfolding xtime mulBits mul squares inverse fromBits affine sub row subBytes shiftRows mixColumns addRoundKey round rounds cipher powerOfX nextWord words keyExpansion xorL shifted doubled subkey1 subkey2 chain ahead padded lastBlock closed tag mac mic masked helperBlock streamAt crypted dataMic payloadKey enciphered sealed
+unfolding xtime mulBits mul squares inverse fromBits affine sub row subBytes shiftRows mixColumns addRoundKey round rounds cipher powerOfX nextWord words keyExpansion xorL shifted doubled subkey1 subkey2 chain ahead padded lastBlock closed tag mac mic masked helperBlock streamAt crypted message dataMic payloadKey enciphered sealed
 frame-of-1 = refl
 
 pub frame-of-2 : frameOf 2 ≡ 0x40 ∷ 1 ∷ 2 ∷ 3 ∷ 4 ∷ 0 ∷ 0 ∷ 0 ∷ 1 ∷ 0x52 ∷ 0x6c ∷ 0x6b ∷ 0xbc ∷ 0xa4 ∷ []
-unfolding xtime mulBits mul squares inverse fromBits affine sub row subBytes shiftRows mixColumns addRoundKey round rounds cipher powerOfX nextWord words keyExpansion xorL shifted doubled subkey1 subkey2 chain ahead padded lastBlock closed tag mac mic masked helperBlock streamAt crypted dataMic payloadKey enciphered sealed
+unfolding xtime mulBits mul squares inverse fromBits affine sub row subBytes shiftRows mixColumns addRoundKey round rounds cipher powerOfX nextWord words keyExpansion xorL shifted doubled subkey1 subkey2 chain ahead padded lastBlock closed tag mac mic masked helperBlock streamAt crypted message dataMic payloadKey enciphered sealed
 frame-of-2 = refl

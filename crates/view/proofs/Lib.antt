@@ -1,4 +1,3 @@
 pub mod Accessor
-pub mod Determined
 pub mod Fields
 pub mod Made

@@ -1,5 +1,5 @@
--- The promise of each public call fixes its answer: two answers that satisfy it at the same arguments are equal. Of a part that
--- is shown it fixes the place in memory and the bytes.
+-- The promise of each call that shows a part of a slice fixes the place in memory and the bytes of what it shows, and that of
+-- `View::of` the view. What no program can see, the ghost name of a reference, it leaves open.
 -- Assumes nothing.
 use mathlib.Core.Path.{_≡_, sym, _∙_}
 use mathlib.Core.List.{List}
@@ -16,32 +16,27 @@ use contract.Monad.{Fun, fact, factI, fact-use}
 use denote.Ref.{RefT}
 use denote.Triple.Entry.{Args, Res}
 use denote.Triple.Clauses.{Ended, Clauses, AtExit}
-use Rattle.base.proofs.Fixed.{Determined}
 use Rattle.view.specs.Parts.{seen}
 use Rattle.view.specs.Viewed.{viewOf, partOf}
 use Rattle.view.specs.declared.parts.Field.{Field}
 use Rattle.view.specs.declared.parts.Field.the-variants.{DevAddr, FOpts, Payload, AppEui, DevEui, DevNonce, Mic}
-use Rattle.view.proofs.parts.place_of.Reads as place-of
 use Rattle.view.proofs.parts.piece.Reads as piece
 use Rattle.view.proofs.parts.shown.Reads as shown
 use Rattle.view.proofs.part_of.Reads as part-of
 use Rattle.view.proofs.Accessor.{ended, shows-field}
 use Rattle.view.proofs.View.of as made
 use Rattle.view.proofs.View.part as part
 use Rattle.view.proofs.View.dev_addr as dev-addr
 use Rattle.view.proofs.View.fopts as fopts
 use Rattle.view.proofs.View.payload as payload
 use Rattle.view.proofs.View.app_eui as app-eui
 use Rattle.view.proofs.View.dev_eui as dev-eui
 use Rattle.view.proofs.View.dev_nonce as dev-nonce
 use Rattle.view.proofs.View.mic as mic
 
--- ---- calls on plain slices and numbers
+-- ---- calls on plain slices
 
-pub place-of-determined : Determined place-of.Learnt
-place-of-determined κs a x y s t p q = p ∙ sym q
-
--- the same of a call that shows a part: two answers lie at the same place and hold the same bytes
+-- two answers of a call that shows a part lie at the same place and hold the same bytes
 abbrev pub SamePart : {K : Type 0} {D S : K → Type 0} → ((κs : K) → D κs → RefT (List ℕ) → S κs → Type 0) → Type 0
 SamePart {K} {D} {S} post =
     (κs : K) (a : D κs) (x y : RefT (List ℕ)) (s t : S κs) → post κs a x s → post κs a y t → seen x ≡ seen y
