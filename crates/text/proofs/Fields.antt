@@ -2,14 +2,16 @@
 -- and the bytes from the MIC's place on are the MIC. Each follows from the frame's length.
 -- Assumes nothing.
 use mathlib.Core.Path.{_≡_, refl, sym, ap, _∙_, subst}
-use mathlib.Core.List.{List}
+use mathlib.Core.List.{List, [], _∷_}
 use Prim.Native.Nat.{ℕ, _+_, _-_, _≤_, _<_}
 use native.Mathlib.Omega.{arith}
 use lib.Dec.{ltb, eqb}
 use lib.ListN.{length, take, drop, length-drop}
 use lib.Seq.{take-all}
 use borrow.Author.Tests.{ltb-false}
+use Rattle.base.specs.Bytes.{part}
 use Rattle.base.proofs.Cases.{by-bool}
+use Rattle.base.proofs.Parts.{part-tab}
 use Rattle.frame.specs.Layout.{micOf, fhdrLength, hasPort, fport}
 use Rattle.frame.specs.Reading.{payloadOf, dataOf}
 use Rattle.frame.specs.Conditions.{IsData}
@@ -45,3 +47,13 @@ fields f d h e = subst (λ (x : DataFrame). Fields f x) (sym e) (fields-of f h)
 pub mic-part : (f : List ℕ) (m : ℕ) → m ≡ length f - 4 → take (length f - m) (drop m f) ≡ micOf f
 mic-part f m e =
     take-all (length f - m) (drop m f) (omega (arith, length-drop m f)) ∙ ap (λ (n : ℕ). drop n f) e
+
+-- the last four of the 23 bytes of a join-request
+pub mic-last : (f : List ℕ) → length f ≡ 23 → part 19 4 f ≡ micOf f
+mic-last f h = ap (λ (n : ℕ). take (n - 19) (drop 19 f)) (sym h) ∙ mic-part f 19 (omega arith)
+
+-- FCtrl as a part of the frame
+pub fctrl-part : (f : List ℕ) (d : DataFrame) → IsData f → d ≡ dataOf f → part 5 1 f ≡ d .fctrl ∷ []
+unfolding dataOf
+fctrl-part f d h e =
+    part-tab 5 1 f (omega (arith, h .least)) ∙ ap (λ (x : DataFrame). x .fctrl ∷ []) (sym e)

@@ -1,7 +1,7 @@
 -- How long each line is at most, and so each text: a number has at most five digits, a byte has two.
 -- Assumes nothing.
-use mathlib.Core.Path.{_≡_, refl}
-use mathlib.Core.List.{List, [], _∷_}
+use mathlib.Core.Path.{_≡_, refl, sym, _∙_}
+use mathlib.Core.List.{List, [], _∷_, _++_, append-assoc}
 use Prim.Native.Nat.{ℕ, _+_, _-_, _*_, _≤_}
 use native.Mathlib.Omega.{arith}
 use lib.ListN.{length, length-append, length-drop, length-take}
@@ -15,7 +15,7 @@ use Rattle.frame.specs.declared.parser.FrmPayload.the-variants.{Nothing, Data a
 use Rattle.frame.specs.declared.parser.DataFrame.{DataFrame}
 use Rattle.frame.specs.declared.parser.Reading.{Reading}
 use Rattle.frame.specs.declared.parser.Reading.the-variants.{JoinRequest, JoinAccept, Data, Refused}
-use Rattle.text.specs.Text.{hexOf, fiveDigits, decimalOf, typeWord, lengthWord, fcntWord, foptsWord, portWord, refusedWord, hexLine, numberLine, portLine, placeLine, payloadLine, headerText, restText, dataText, joinRequestText, joinAcceptText, textOfReading, textOf}
+use Rattle.text.specs.Text.{hexOf, fiveDigits, decimalOf, typeWord, lengthWord, fcntWord, foptsWord, portWord, refusedWord, payloadWord, space, newline, hexLine, numberLine, portLine, placeLine, payloadLine, headerText, restText, dataText, euisText, joinRequestText, joinAcceptText, textOfReading, textOf}
 
 pub length-hexOf : (s : List ℕ) → length (hexOf s) ≡ 2 * length s
 unfolding hexOf
@@ -33,6 +33,18 @@ length-hexLine word bytes = simp (length-append, length-hexOf) (omega arith)
 pub length-numberLine : (word : List ℕ) (n : ℕ) → length (numberLine word n) ≤ length word + 6
 unfolding numberLine
 length-numberLine word n = simp length-append (omega (arith, length-decimalOf n))
+
+-- a word and a number, with which a line begins
+pub length-word-decimal : (word : List ℕ) (n : ℕ) → length (word ++ decimalOf n) ≤ length word + 5
+length-word-decimal word n = omega (arith, length-append word (decimalOf n), length-decimalOf n)
+
+-- the line of a place and a length is such a beginning and a line
+pub place-split : (start end : ℕ) → payloadWord ++ decimalOf start ++ numberLine space (end - start) ≡ placeLine start end
+unfolding placeLine numberLine
+place-split start end =
+    sym
+    (append-assoc (payloadWord ++ decimalOf start ++ space) (decimalOf (end - start)) newline
+    ∙ append-assoc (payloadWord ++ decimalOf start) space (decimalOf (end - start) ++ newline))
 
 pub length-portLine : (p : FPort) → length (portLine p) ≤ 11
 unfolding portLine
@@ -81,6 +93,10 @@ length-restText f d =
 length-dataText : (f : List ℕ) (d : DataFrame) → length (dataText f d) ≤ 128
 unfolding dataText
 length-dataText f d = simp length-append (omega (arith, length-headerText f d, length-restText f d))
+
+pub length-euisText : (f : List ℕ) → length (euisText f) ≤ 53
+length-euisText f =
+    simp (length-append, length-hexLine) (omega (arith, length-numberLine typeWord 0, length-part 1 8 f, length-part 9 8 f))
 
 pub length-joinRequestText : (f : List ℕ) → length (joinRequestText f) ≤ 77
 unfolding joinRequestText

@@ -150,10 +150,11 @@ unfoldable pub dataText : List ℕ → DataFrame → List ℕ
 dataText f d = headerText f d ++ restText f d
 
 -- a join-request: AppEUI, DevEUI, DevNonce and MIC
+abbrev pub euisText : List ℕ → List ℕ
+euisText f = numberLine typeWord 0 ++ hexLine appWord (part 1 8 f) ++ hexLine devWord (part 9 8 f)
+
 unfoldable pub joinRequestText : List ℕ → List ℕ
-joinRequestText f =
-    numberLine typeWord 0 ++ hexLine appWord (part 1 8 f) ++ hexLine devWord (part 9 8 f) ++ hexLine nonceWord (part 17 2 f)
-    ++ hexLine micWord (micOf f)
+joinRequestText f = euisText f ++ hexLine nonceWord (part 17 2 f) ++ hexLine micWord (micOf f)
 
 unfoldable pub joinAcceptText : ℕ → List ℕ
 joinAcceptText n = numberLine typeWord 1 ++ numberLine lengthWord n

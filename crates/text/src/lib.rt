@@ -1,12 +1,13 @@
 // The text that `show` writes for a frame (document 01, "Examples").
 ghost use mathlib.Core.Path.{_≡_};
-ghost use mathlib.Core.List.{[], _∷_};
-ghost use Prim.Native.Nat.{_+_, _*_, _≤_, _<_};
+ghost use mathlib.Core.List.{[], _∷_, _++_};
+ghost use Prim.Native.Nat.{_+_, _-_, _*_, _≤_, _<_};
 ghost use lib.ListN.{length};
+ghost use Rattle.base.specs.Bytes.{part};
 ghost use Rattle.base.proofs.Put.{Put};
 ghost use Rattle.frame.specs.Reading.{dataOf, readOf};
 ghost use Rattle.frame.specs.Conditions.{IsData};
-ghost use Rattle.text.specs.Text.{digitOf, hexOf, decimalOf, digitCount, newline, hexLine, numberLine, placeLine, Spans, payloadLine, portLine, headerText, restText, dataText, joinRequestText, joinAcceptText, textOf, describedLength, describedIn};
+ghost use Rattle.text.specs.Text.{digitOf, hexOf, digitCount, fiveDigits, decimalOf, typeWord, newline, hexLine, numberLine, placeLine, Spans, payloadLine, portLine, headerText, restText, dataText, euisText, joinRequestText, joinAcceptText, textOf, describedLength, describedIn};
 use frame::parser::DataFrame;
 use frame::parser::FPort;
 use frame::parser::FrmPayload;
@@ -44,18 +45,6 @@ fn digit(n: usize) -> u8
 }
 
 // Each writer below puts its bytes into out from the place at on, and answers the place after them.
-
-fn put(out: &mut [u8], at: usize, bytes: &[u8]) -> usize
-    requires { ⌜ at + length (now bytes) ≤ length (now out) ⌝ }
-    ensures { λ r. ⌜ Put (now (out .entry)) at (now (bytes .entry)) r (now (out .exit)) ⌝ }
-{
-    let mut i = 0;
-    while i < bytes.len() {
-        out[at + i] = bytes[i];
-        i += 1;
-    }
-    at + i
-}
 
 fn put_newline(out: &mut [u8], at: usize) -> usize
     requires { ⌜ at < length (now out) ⌝ }
@@ -106,28 +95,53 @@ fn digit_count(n: usize) -> usize
     5
 }
 
-fn put_decimal(out: &mut [u8], at: usize, n: usize) -> usize
+fn five_digits(n: usize) -> [u8; 5]
     requires { ⌜ n < 100000 ⌝ }
-    requires { ⌜ at + 5 ≤ length (now out) ⌝ }
-    ensures { λ r. ⌜ Put (now (out .entry)) at (decimalOf n) r (now (out .exit)) ⌝ }
+    ensures { λ r. ⌜ r ≡ fiveDigits n ⌝ }
 {
     let d4 = digit(n / 10000);
     let d3 = digit(n / 1000 % 10);
     let d2 = digit(n / 100 % 10);
     let d1 = digit(n / 10 % 10);
     let d0 = digit(n % 10);
-    let five = [d4, d3, d2, d1, d0];
-    let zeros = 5 - digit_count(n);
-    put(out, at, &five[zeros..])
+    [d4, d3, d2, d1, d0]
 }
 
-fn put_hex_line(out: &mut [u8], at: usize, word: &[u8], bytes: &[u8]) -> usize
-    requires { ⌜ at + length (now word) + 2 * length (now bytes) < length (now out) ⌝ }
-    ensures { λ r. ⌜ Put (now (out .entry)) at (hexLine (now (word .entry)) (now (bytes .entry))) r (now (out .exit)) ⌝ }
+fn put_decimal(out: &mut [u8], at: usize, n: usize) -> usize
+    requires { ⌜ n < 100000 ⌝ }
+    requires { ⌜ at + 5 ≤ length (now out) ⌝ }
+    ensures { λ r. ⌜ Put (now (out .entry)) at (decimalOf n) r (now (out .exit)) ⌝ }
 {
-    let j = put(out, at, word);
-    let k = put_hex(out, j, bytes);
+    let five = five_digits(n);
+    let zeros = 5 - digit_count(n);
+    pieces::put(out, at, &five[zeros..])
+}
+
+// A line of the bytes start..end of a frame.
+fn put_hex_line(
+    out: &mut [u8],
+    at: usize,
+    word: &[u8],
+    frame: &[u8],
+    start: usize,
+    end: usize,
+) -> usize
+    requires { ⌜ (start ≤ end) × (end ≤ length (now frame)) ⌝ }
+    requires { ⌜ at + length (now word) + 2 * (end - start) < length (now out) ⌝ }
+    ensures { λ r. ⌜ Put (now (out .entry)) at (hexLine (now (word .entry)) (part start (end - start) (now (frame .entry)))) r (now (out .exit)) ⌝ }
+{
+    let j = pieces::put(out, at, word);
+    let k = put_hex(out, j, &frame[start..end]);
     put_newline(out, k)
+}
+
+fn put_word_number(out: &mut [u8], at: usize, word: &[u8], n: usize) -> usize
+    requires { ⌜ n < 100000 ⌝ }
+    requires { ⌜ at + length (now word) + 5 ≤ length (now out) ⌝ }
+    ensures { λ r. ⌜ Put (now (out .entry)) at (now (word .entry) ++ decimalOf n) r (now (out .exit)) ⌝ }
+{
+    let j = pieces::put(out, at, word);
+    put_decimal(out, j, n)
 }
 
 fn put_number_line(out: &mut [u8], at: usize, word: &[u8], n: usize) -> usize
@@ -135,15 +149,22 @@ fn put_number_line(out: &mut [u8], at: usize, word: &[u8], n: usize) -> usize
     requires { ⌜ at + length (now word) + 6 ≤ length (now out) ⌝ }
     ensures { λ r. ⌜ Put (now (out .entry)) at (numberLine (now (word .entry)) n) r (now (out .exit)) ⌝ }
 {
-    let j = put(out, at, word);
-    let k = put_decimal(out, j, n);
-    put_newline(out, k)
+    let j = put_word_number(out, at, word, n);
+    put_newline(out, j)
 }
 
 fn wide(b: u8) -> usize
     ensures { λ r. ⌜ (r ≡ b) × (r < 256) ⌝ }
 {
     b as usize
+}
+
+// The first line of every text but a refusal's, at the start of out.
+fn put_type_line(out: &mut [u8], mtype: u8) -> usize
+    requires { ⌜ 128 ≤ length (now out) ⌝ }
+    ensures { λ r. ⌜ Put (now (out .entry)) 0 (numberLine typeWord mtype) r (now (out .exit)) ⌝ }
+{
+    put_number_line(out, 0, b"type ", wide(mtype))
 }
 
 // The lines of a data frame that say `none` where there is nothing.
@@ -153,7 +174,7 @@ fn put_port_line(out: &mut [u8], at: usize, port: FPort) -> usize
     ensures { λ r. ⌜ Put (now (out .entry)) at (portLine port) r (now (out .exit)) ⌝ }
 {
     match port {
-        FPort::Absent => put(out, at, b"port none\n"),
+        FPort::Absent => pieces::put(out, at, b"port none\n"),
         FPort::Port(p) => put_number_line(out, at, b"port ", wide(p)),
     }
 }
@@ -164,11 +185,8 @@ fn put_place_line(out: &mut [u8], at: usize, start: usize, end: usize) -> usize
     requires { ⌜ at + 20 ≤ length (now out) ⌝ }
     ensures { λ r. ⌜ Put (now (out .entry)) at (placeLine start end) r (now (out .exit)) ⌝ }
 {
-    let j = put(out, at, b"payload ");
-    let k = put_decimal(out, j, start);
-    let l = put(out, k, b" ");
-    let m = put_decimal(out, l, end - start);
-    put_newline(out, m)
+    let j = put_word_number(out, at, b"payload ", start);
+    put_number_line(out, j, b" ", end - start)
 }
 
 fn put_payload_line(out: &mut [u8], at: usize, payload: FrmPayload) -> usize
@@ -177,7 +195,7 @@ fn put_payload_line(out: &mut [u8], at: usize, payload: FrmPayload) -> usize
     ensures { λ r. ⌜ Put (now (out .entry)) at (payloadLine payload) r (now (out .exit)) ⌝ }
 {
     match payload {
-        FrmPayload::Nothing => put(out, at, b"payload none\n"),
+        FrmPayload::Nothing => pieces::put(out, at, b"payload none\n"),
         FrmPayload::Data(start, end) => put_place_line(out, at, start, end),
         FrmPayload::MacCommands(start, end) => put_place_line(out, at, start, end),
     }
@@ -191,14 +209,14 @@ fn wide_fcnt(n: u16) -> usize
 
 // The first four lines of a data frame, at the start of out.
 fn put_header(out: &mut [u8], frame: &[u8], d: DataFrame) -> usize
-    requires { ⌜ 12 ≤ length (now frame) ⌝ }
+    requires { ⌜ IsData (now frame) ⌝ }
+    requires { ⌜ d ≡ dataOf (now frame) ⌝ }
     requires { ⌜ 128 ≤ length (now out) ⌝ }
     ensures { λ r. ⌜ Put (now (out .entry)) 0 (headerText (now (frame .entry)) d) r (now (out .exit)) ⌝ }
 {
-    let fctrl = [d.fctrl];
-    let j = put_number_line(out, 0, b"type ", wide(d.mtype));
-    let k = put_hex_line(out, j, b"addr ", &frame[1..5]);
-    let l = put_hex_line(out, k, b"fctrl ", &fctrl);
+    let j = put_type_line(out, d.mtype);
+    let k = put_hex_line(out, j, b"addr ", frame, 1, 5);
+    let l = put_hex_line(out, k, b"fctrl ", frame, 5, 6);
     put_number_line(out, l, b"fcnt ", wide_fcnt(d.fcnt))
 }
 
@@ -215,7 +233,7 @@ fn put_rest(out: &mut [u8], at: usize, frame: &[u8], d: DataFrame) -> usize
     let payload = d.payload;
     let l = put_payload_line(out, k, payload);
     let mic = d.mic;
-    put_hex_line(out, l, b"mic ", &frame[mic..])
+    put_hex_line(out, l, b"mic ", frame, mic, frame.len())
 }
 
 fn put_data(out: &mut [u8], frame: &[u8], d: DataFrame) -> usize
@@ -228,17 +246,26 @@ fn put_data(out: &mut [u8], frame: &[u8], d: DataFrame) -> usize
     put_rest(out, at, frame, d)
 }
 
-// AppEUI, DevEUI, DevNonce and MIC of a join-request.
+// AppEUI and DevEUI of a join-request.
+fn put_euis(out: &mut [u8], frame: &[u8]) -> usize
+    requires { ⌜ length (now frame) ≡ 23 ⌝ }
+    requires { ⌜ 128 ≤ length (now out) ⌝ }
+    ensures { λ r. ⌜ Put (now (out .entry)) 0 (euisText (now (frame .entry))) r (now (out .exit)) ⌝ }
+{
+    let j = put_type_line(out, 0);
+    let k = put_hex_line(out, j, b"app ", frame, 1, 9);
+    put_hex_line(out, k, b"dev ", frame, 9, 17)
+}
+
+// Then DevNonce and MIC.
 fn put_join_request(out: &mut [u8], frame: &[u8]) -> usize
     requires { ⌜ length (now frame) ≡ 23 ⌝ }
     requires { ⌜ 128 ≤ length (now out) ⌝ }
     ensures { λ r. ⌜ Put (now (out .entry)) 0 (joinRequestText (now (frame .entry))) r (now (out .exit)) ⌝ }
 {
-    let j = put_number_line(out, 0, b"type ", 0);
-    let k = put_hex_line(out, j, b"app ", &frame[1..9]);
-    let l = put_hex_line(out, k, b"dev ", &frame[9..17]);
-    let m = put_hex_line(out, l, b"nonce ", &frame[17..19]);
-    put_hex_line(out, m, b"mic ", &frame[19..])
+    let j = put_euis(out, frame);
+    let k = put_hex_line(out, j, b"nonce ", frame, 17, 19);
+    put_hex_line(out, k, b"mic ", frame, 19, 23)
 }
 
 fn put_join_accept(out: &mut [u8], n: usize) -> usize
@@ -246,7 +273,7 @@ fn put_join_accept(out: &mut [u8], n: usize) -> usize
     requires { ⌜ 128 ≤ length (now out) ⌝ }
     ensures { λ r. ⌜ Put (now (out .entry)) 0 (joinAcceptText n) r (now (out .exit)) ⌝ }
 {
-    let j = put_number_line(out, 0, b"type ", 1);
+    let j = put_type_line(out, 1);
     put_number_line(out, j, b"length ", n)
 }
 

@@ -9,7 +9,7 @@ use Rattle.text.proofs.put_data.Statement.{statement}
 use Rattle.text.proofs.put_data.Tie as tie
 
 put-header-requires : tie.Need-put-header-requires
-put-header-requires c κs = omega (arith, c .before .before .before .pre)
+put-header-requires c κs = c .before .before .before .pre
 
 put-rest-requires : tie.Need-put-rest-requires
 put-rest-requires c κs = (

@@ -2,71 +2,69 @@
 -- are no longer than their laws say.
 -- Assumes nothing.
 use mathlib.Core.Path.{ap}
-use mathlib.Core.List.{[], _∷_}
 use native.Mathlib.Omega.{arith}
 use borrow.Author.Needs.{needs}
 use Rattle.base.proofs.Put.{then}
 use Rattle.base.proofs.Pieces.{same}
-use Rattle.text.specs.Text.{typeWord, addrWord, fctrlWord, fcntWord, numberLine, headerText}
-use Rattle.text.proofs.Lengths.{length-numberLine, length-hexLine, length-part, length-partLine}
+use Rattle.text.specs.Text.{typeWord, addrWord, fctrlWord, fcntWord, hexLine, numberLine, headerText}
+use Rattle.text.proofs.Fields.{fctrl-part}
+use Rattle.text.proofs.Lengths.{length-numberLine, length-partLine}
 use Rattle.text.proofs.put_header.Statement.{statement}
 use Rattle.text.proofs.put_header.Tie as tie
 
 put-hex-line-requires : tie.Need-put-hex-line-requires
 put-hex-line-requires c κs =
-    omega (arith, c .before .before .before .before .before .put-number-line, c .before .before .before .before .before .before .before .before .before .before .before .pre, length-numberLine typeWord (c .before .before .before .before .before .before .wide .result), length-part 1 4 (c .before .before .before .before .before .before .before .before .before .before .before .args .frame .now))
+    let start = c .before .before .before .before .before .before .before .before in
+    omega (arith, c .before .before .before .before .put-type-line, start .pre, start .pre .0 .least, length-numberLine typeWord (start .args .d .mtype))
 
 put-hex-line-requires-2 : tie.Need-put-hex-line-requires-2
 put-hex-line-requires-2 c κs =
+    let start = c .before .before .before .before .before .before .before .before .before .before .before .before .before in
     omega (
       arith,
-      c .before .before .before .before .before .before .before .before .before .before .before .put-number-line,
-      c .before .before .before .before .before .put-hex-line,
-      c .before .before .before .before .before .before .before .before .before .before .before .before .before .before .before .before .before .pre,
-      length-numberLine typeWord (c .before .before .before .before .before .before .before .before .before .before .before .before .wide .result),
-      length-partLine addrWord 1 4 (c .before .before .before .before .before .before .before .before .before .before .before .before .before .before .before .before .before .args .frame .now),
+      c .before .before .before .before .before .before .before .before .before .put-type-line,
+      c .before .before .before .before .put-hex-line,
+      start .pre,
+      start .pre .0 .least,
+      length-numberLine typeWord (start .args .d .mtype),
+      length-partLine addrWord 1 4 (start .args .frame .now),
     )
 
-put-number-line-requires-2 : tie.Need-put-number-line-requires-2
-put-number-line-requires-2 c κs =
+put-number-line-requires : tie.Need-put-number-line-requires
+put-number-line-requires c κs =
+    let start = c .before .before .before .before .before .before .before .before .before .before .before .before .before .before .before .before .before .before .before in
     omega (
       arith,
       c .wide-fcnt,
-      c .before .before .before .before .before .before .before .before .before .before .before .before .before .before .before .before .before .put-number-line,
-      c .before .before .before .before .before .before .before .before .before .before .before .put-hex-line,
+      c .before .before .before .before .before .before .before .before .before .before .before .before .before .before .before .put-type-line,
+      c .before .before .before .before .before .before .before .before .before .before .put-hex-line,
       c .before .before .before .before .before .put-hex-line2,
-      c .before .before .before .before .before .before .before .before .before .before .before .before .before .before .before .before .before .before .before .before .before .before .before .pre,
-      length-numberLine typeWord (c .before .before .before .before .before .before .before .before .before .before .before .before .before .before .before .before .before .before .wide .result),
-      length-partLine addrWord 1 4 (c .before .before .before .before .before .before .before .before .before .before .before .before .before .before .before .before .before .before .before .before .before .before .before .args .frame .now),
-      length-hexLine fctrlWord (c .before .before .before .before .before .before .before .before .before .before .before .before .before .before .before .before .before .before .before .before .before .before .before .args .d .fctrl ∷ []),
+      start .pre,
+      length-numberLine typeWord (start .args .d .mtype),
+      length-partLine addrWord 1 4 (start .args .frame .now),
+      length-partLine fctrlWord 5 1 (start .args .frame .now),
     )
 
 returns : tie.Need-returns
 unfolding headerText
 returns c =
+    let start = c .before .before .before .before .before .before .before .before .before .before .before .before .before .before .before .before .before .before .before .before .before .before in
     then
-    (then
-    (then (same (ap (numberLine typeWord) (c .before .before .before .before .before .before .before .before .before .before .before .before .before .before .before .before .before .before .before .before .before .wide .ensures .0)) (c .before .before .before .before .before .before .before .before .before .before .before .before .before .before .before .before .before .before .before .before .put-number-line .ensures)) (c .before .before .before .before .before .before .before .before .before .before .before .before .before .before .put-hex-line .ensures))
-    (c .before .before .before .before .before .before .before .before .put-hex-line2 .ensures))
-    (same (ap (numberLine fcntWord) (c .before .before .before .wide-fcnt .ensures .0)) (c .before .before .put-number-line2 .ensures))
+    (then (then (c .before .before .before .before .before .before .before .before .before .before .before .before .before .before .before .before .before .before .put-type-line .ensures) (c .before .before .before .before .before .before .before .before .before .before .before .before .before .put-hex-line .ensures))
+    (same (ap (hexLine fctrlWord) (fctrl-part (start .args .frame .now) (start .args .d) (start .pre .0) (start .pre .1 .0))) (c .before .before .before .before .before .before .before .before .put-hex-line2 .ensures)))
+    (same (ap (numberLine fcntWord) (c .before .before .before .wide-fcnt .ensures .0)) (c .before .before .put-number-line .ensures))
 
 pub put-header-spec : {M : Type 1} → statement M
 put-header-spec =
     tie.close
     (tie.spec
-    (λ c. search needs)
     (λ c κs. search needs)
-    (λ c κs. search needs)
-    (λ c. search needs)
-    (λ c. search needs)
-    (λ c. search needs)
     (λ c. search needs)
     put-hex-line-requires
-    (λ c. search needs)
     (λ c. search needs)
     put-hex-line-requires-2
     (λ c. search needs)
     (λ c κs. search needs)
-    put-number-line-requires-2
+    put-number-line-requires
     (λ c. search needs)
     returns)

@@ -8,20 +8,19 @@ use Rattle.text.proofs.Lengths.{length-numberLine}
 use Rattle.text.proofs.put_join_accept.Statement.{statement}
 use Rattle.text.proofs.put_join_accept.Tie as tie
 
-put-number-line-requires-2 : tie.Need-put-number-line-requires-2
-put-number-line-requires-2 c κs = omega (arith, c .before .before .before .before .put-number-line, c .before .before .before .before .before .before .before .before .pre, length-numberLine typeWord 1)
+put-number-line-requires : tie.Need-put-number-line-requires
+put-number-line-requires c κs = omega (arith, c .before .before .before .before .put-type-line, c .before .before .before .before .before .before .before .pre, length-numberLine typeWord 1)
 
 returns : tie.Need-returns
 unfolding joinAcceptText
-returns c = then (c .before .before .before .before .before .before .before .put-number-line .ensures) (c .before .before .put-number-line2 .ensures)
+returns c = then (c .before .before .before .before .before .before .before .put-type-line .ensures) (c .before .before .put-number-line .ensures)
 
 pub put-join-accept-spec : {M : Type 1} → statement M
 put-join-accept-spec =
     tie.close
     (tie.spec
-    (λ c. search needs)
     (λ c κs. search needs)
     (λ c. search needs)
-    put-number-line-requires-2
+    put-number-line-requires
     (λ c. search needs)
     returns)

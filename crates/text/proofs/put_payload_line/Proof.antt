@@ -1,9 +1,11 @@
 -- `text::put_payload_line` meets its contract, by the case of the payload.
 -- Assumes nothing.
 use mathlib.Core.Path.{sym, ap, subst}
+use native.Mathlib.Omega.{arith}
 use borrow.Author.Needs.{needs}
 use Rattle.frame.specs.declared.parser.FrmPayload.{FrmPayload}
 use Rattle.base.proofs.Pieces.{same}
+use Rattle.pieces.proofs.Laws.{fitted}
 use Rattle.text.specs.Text.{Spans, payloadLine}
 use Rattle.text.proofs.put_payload_line.Statement.{statement}
 use Rattle.text.proofs.put_payload_line.Tie as tie
@@ -20,7 +22,7 @@ put-place-line-requires-2 c κs =
 
 returns : tie.Need-returns
 unfolding payloadLine
-returns c = same (ap payloadLine (sym (c .before .before .before .before .before .enum-told .given .1))) (c .before .before .put .ensures)
+returns c = same (ap payloadLine (sym (c .before .before .before .before .before .enum-told .given .1))) (fitted (c .before .before .put .ensures) (omega arith))
 
 returns-2 : tie.Need-returns-2
 unfolding payloadLine

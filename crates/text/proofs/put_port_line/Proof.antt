@@ -1,15 +1,17 @@
 -- `text::put_port_line` meets its contract, by the case of the port.
 -- Assumes nothing.
 use mathlib.Core.Path.{sym, ap, _∙_}
+use native.Mathlib.Omega.{arith}
 use borrow.Author.Needs.{needs}
 use Rattle.base.proofs.Pieces.{same}
+use Rattle.pieces.proofs.Laws.{fitted}
 use Rattle.text.specs.Text.{portWord, numberLine, portLine}
 use Rattle.text.proofs.put_port_line.Statement.{statement}
 use Rattle.text.proofs.put_port_line.Tie as tie
 
 returns : tie.Need-returns
 unfolding portLine
-returns c = same (ap portLine (sym (c .before .before .before .before .before .enum-told .given .1))) (c .before .before .put .ensures)
+returns c = same (ap portLine (sym (c .before .before .before .before .before .enum-told .given .1))) (fitted (c .before .before .put .ensures) (omega arith))
 
 returns-2 : tie.Need-returns-2
 unfolding portLine

@@ -5,12 +5,11 @@ use mathlib.Core.Path.{ap}
 use Prim.Native.Nat.{_-_}
 use native.Mathlib.Omega.{arith}
 use borrow.Author.Needs.{needs}
-use lib.ListN.{length}
 use Rattle.base.proofs.Put.{then}
 use Rattle.base.proofs.Pieces.{same}
 use Rattle.text.specs.Text.{foptsWord, micWord, hexLine, restText}
 use Rattle.text.proofs.Fields.{Fields, fields, mic-part}
-use Rattle.text.proofs.Lengths.{length-numberLine, length-portLine, length-payloadLine, length-part}
+use Rattle.text.proofs.Lengths.{length-numberLine, length-portLine, length-payloadLine}
 use Rattle.text.proofs.put_rest.Statement.{statement}
 use Rattle.text.proofs.put_rest.Tie as tie
 
@@ -26,47 +25,46 @@ put-number-line-requires c κs = omega (arith, known (c .before .before .before 
 
 put-port-line-requires : tie.Need-put-port-line-requires
 put-port-line-requires c κs =
-    omega (arith, c .before .before .before .put-number-line, c .before .before .before .before .before .before .before .before .before .pre, length-numberLine foptsWord (c .before .before .before .before .before .before .before .before .before .args .d .«fopts_end» - 8))
+    let start = c .before .before .before .before .before .before .before .before .before in
+    omega (arith, c .before .before .before .put-number-line, start .pre, length-numberLine foptsWord (start .args .d .«fopts_end» - 8))
 
 put-payload-line-requires : tie.Need-put-payload-line-requires
-put-payload-line-requires c κs = (
-  known (c .before .before .before .before .before .before .before .before .before .before .before .before .before) .spans,
-  omega (
-    arith,
-    c .before .before .before .before .before .before .before .put-number-line,
-    c .before .before .before .put-port-line,
-    c .before .before .before .before .before .before .before .before .before .before .before .before .before .pre,
-    length-numberLine foptsWord (c .before .before .before .before .before .before .before .before .before .before .before .before .before .args .d .«fopts_end» - 8),
-    length-portLine (c .before .before .before .before .before .before .before .before .before .before .before .before .before .args .d .port),
-  ),
-)
-
-sub-put-hex-line : tie.Need-sub-put-hex-line
-sub-put-hex-line c = omega (arith, known (c .before .before .before .before .before .before .before .before .before .before .before .before .before .before .before .before .before .before))
-
-part-put-hex-line-start : tie.Need-part-put-hex-line-start
-part-put-hex-line-start c = omega (arith, known (c .before .before .before .before .before .before .before .before .before .before .before .before .before .before .before .before .before .before))
+put-payload-line-requires c κs =
+    let start = c .before .before .before .before .before .before .before .before .before .before .before .before .before in (
+      known start .spans,
+      omega (
+        arith,
+        c .before .before .before .before .before .before .before .put-number-line,
+        c .before .before .before .put-port-line,
+        start .pre,
+        length-numberLine foptsWord (start .args .d .«fopts_end» - 8),
+        length-portLine (start .args .d .port),
+      ),
+    )
 
 put-hex-line-requires : tie.Need-put-hex-line-requires
 put-hex-line-requires c κs =
+    let start = c .before .before .before .before .before .before .before .before .before .before .before .before .before .before .before .before .before .before in
     omega (
       arith,
-      known (c .before .before .before .before .before .before .before .before .before .before .before .before .before .before .before .before .before .before .before),
-      c .before .before .before .before .before .before .before .before .before .before .before .before .before .put-number-line,
-      c .before .before .before .before .before .before .before .before .before .put-port-line,
-      c .before .before .before .before .before .put-payload-line,
-      c .before .before .before .before .before .before .before .before .before .before .before .before .before .before .before .before .before .before .before .pre,
-      length-numberLine foptsWord (c .before .before .before .before .before .before .before .before .before .before .before .before .before .before .before .before .before .before .before .args .d .«fopts_end» - 8),
-      length-portLine (c .before .before .before .before .before .before .before .before .before .before .before .before .before .before .before .before .before .before .before .args .d .port),
-      length-payloadLine (c .before .before .before .before .before .before .before .before .before .before .before .before .before .before .before .before .before .before .before .args .d .payload),
-      length-part (c .before .before .before .before .before .before .before .before .before .before .before .before .before .before .before .before .before .before .before .args .d .mic) (length (c .before .before .before .before .before .before .before .before .before .before .before .before .before .before .before .before .before .before .before .args .frame .now) - c .before .before .before .before .before .before .before .before .before .before .before .before .before .before .before .before .before .before .before .args .d .mic) (c .before .before .before .before .before .before .before .before .before .before .before .before .before .before .before .before .before .before .before .args .frame .now),
+      known start,
+      c .before .before .before .before .before .before .before .before .before .before .before .before .put-number-line,
+      c .before .before .before .before .before .before .before .before .put-port-line,
+      c .before .before .before .before .put-payload-line,
+      start .pre,
+      length-numberLine foptsWord (start .args .d .«fopts_end» - 8),
+      length-portLine (start .args .d .port),
+      length-payloadLine (start .args .d .payload),
     )
 
 returns : tie.Need-returns
 unfolding restText
 returns c =
-    then (then (then (c .before .before .before .before .before .before .before .before .before .before .before .before .before .before .before .before .put-number-line .ensures) (c .before .before .before .before .before .before .before .before .before .before .before .before .put-port-line .ensures)) (c .before .before .before .before .before .before .before .before .put-payload-line .ensures))
-    (same (ap (hexLine micWord) (mic-part (c .before .before .before .before .before .before .before .before .before .before .before .before .before .before .before .before .before .before .before .before .before .before .args .frame .now) (c .before .before .before .before .before .before .before .before .before .before .before .before .before .before .before .before .before .before .before .before .before .before .args .d .mic) (known (c .before .before .before .before .before .before .before .before .before .before .before .before .before .before .before .before .before .before .before .before .before .before) .mic-at))) (c .before .before .put-hex-line .ensures))
+    let start = c .before .before .before .before .before .before .before .before .before .before .before .before .before .before .before .before .before .before .before .before .before in
+    let frame = start .args .frame .now in
+    then
+    (then (then (c .before .before .before .before .before .before .before .before .before .before .before .before .before .before .before .put-number-line .ensures) (c .before .before .before .before .before .before .before .before .before .before .before .put-port-line .ensures)) (c .before .before .before .before .before .before .before .put-payload-line .ensures))
+    (same (ap (hexLine micWord) (mic-part frame (start .args .d .mic) (known start .mic-at))) (c .before .before .put-hex-line .ensures))
 
 pub put-rest-spec : {M : Type 1} → statement M
 put-rest-spec =
@@ -77,9 +75,6 @@ put-rest-spec =
     put-number-line-requires
     put-port-line-requires
     put-payload-line-requires
-    (λ c. search needs)
-    sub-put-hex-line
-    part-put-hex-line-start
     (λ c. search needs)
     put-hex-line-requires
     (λ c. search needs)
