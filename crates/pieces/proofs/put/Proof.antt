@@ -19,6 +19,9 @@ whole : (c : tie.After-outside) → c .outside .result ≡ false
     → c .before .before .before .args .at + length (c .before .before .before .args .src .now) ≤ length (c .before .before .before .args .out .now)
 whole c e = ltb-false _ _ (sym (c .outside .ensures) ∙ e)
 
+returns : tie.Need-returns
+returns c = no-room _ _ _ (c .if2 .taken)
+
 returns-2 : tie.Need-returns-2
 returns-2 c =
     let args = c .before .before .before .before .before .before .before .before .before .args in
@@ -36,7 +39,7 @@ put-spec =
     tie.close
     (tie.spec
     (λ c κs. search needs)
-    (λ c. no-room _ _ _ (c .if2 .taken))
+    returns
     (λ c. search needs)
     (λ c κs. omega (arith, over (c .before .before .before) (c .before .before .if1 .taken)))
     (λ c. search needs)
