@@ -14,12 +14,12 @@ use Rattle.frame.specs.Conditions.{IsData, Gives, of12, of1, of2, of3, of4}
 use Rattle.frame.specs.Layout.{fcnt, micOf}
 use Rattle.frame.specs.Numbers.{onData}
 use Rattle.frame.specs.Reading.{readOf}
-use Rattle.secure.specs.Security.{dataMic}
+use Rattle.secure.specs.Security.{covered, dataMic}
 use Rattle.frame.specs.declared.parser.Reading.{Reading}
 use Rattle.frame.specs.declared.parser.Reading.the-variants.{JoinRequest, JoinAccept, Data, Refused}
 use Rattle.frame.proofs.ReadingLaws.{Says, answers}
 use Rattle.amend.specs.declared.Opened.{Opened}
-use Rattle.amend.specs.Opening.{covered, openedOf, refusedOpening, acceptedOpening, openChecked, openData, openOf}
+use Rattle.amend.specs.Opening.{openedOf, refusedOpening, acceptedOpening, openChecked, openData, openOf}
 use Rattle.amend.proofs.OpeningLaws.{open-data, counter-right}
 
 -- a data frame whose counter and MIC are right

@@ -9,10 +9,10 @@ use lib.ListN.{length, take, drop, set, length-set}
 use lib.Seq.{sets, sets-eq, take-take, take-append-add, take-set-le, drop-set-lt, length-take-le}
 use Rattle.aes.specs.Fips197.{keyExpansion}
 use Rattle.cmac.proofs.Laws.{chain-same}
-use Rattle.secure.specs.Security.{helperBlock, dataMic}
+use Rattle.secure.specs.Security.{helperBlock, message, dataMic}
 use Rattle.secure.proofs.SecurityLaws.{helperBlock-long, helperBlock-same, dataMic-long}
 use Rattle.amend.specs.Amending.{lastBlock, signedFrom, carried, resigned}
-use Rattle.amend.specs.Opening.{message, chainsOf}
+use Rattle.amend.specs.Opening.{chainsOf}
 use Rattle.amend.proofs.Chains.{table-right, table-rest, carried-table, chainsOf-long, block-behind}
 use Rattle.amend.proofs.OpeningLaws.{signed-mic}
 

@@ -15,11 +15,11 @@ use Rattle.aes.specs.Fips197.{keyExpansion, cipher}
 use Rattle.frame.specs.Conditions.{IsData}
 use Rattle.frame.specs.Layout.{fport, fhdrLength, payloadStart, headerEnd, header, payload}
 use Rattle.secure.specs.Sealing.{payloadKey, sealed}
-use Rattle.secure.specs.Security.{blockNumber, streamAt, dataMic}
+use Rattle.secure.specs.Security.{blockNumber, streamAt, covered, message, dataMic}
 use Rattle.frame.proofs.LayoutLaws.{placed, length-header, length-payload}
 use Rattle.secure.proofs.SecurityLaws.{helperBlock-same, crypted-twice, crypted-set}
 use Rattle.amend.specs.Amending.{state, mask, encryptedByte, payloadLength, lastBlock, carried, resigned, amendedTo}
-use Rattle.amend.specs.Opening.{held, covered, message, chainsOf, openedOf}
+use Rattle.amend.specs.Opening.{held, chainsOf, openedOf}
 use Rattle.amend.specs.Listed.{clearOf}
 use Rattle.amend.proofs.Accepted.{Accepted}
 use Rattle.amend.proofs.Carrying.{carried-message, resigned-message}

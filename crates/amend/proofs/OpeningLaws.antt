@@ -27,11 +27,11 @@ use Rattle.frame.specs.declared.parser.Reading.the-variants.{Data}
 use Rattle.frame.proofs.Others.{not-data}
 use Rattle.frame.proofs.ReadingLaws.{reads-data, data-fields}
 use Rattle.frame.proofs.parser.Reading as R
-use Rattle.secure.specs.Security.{startOf, helperBlock, dataMic}
+use Rattle.secure.specs.Security.{startOf, helperBlock, covered, message, dataMic}
 use Rattle.secure.proofs.SecurityLaws.{helperBlock-long, helperBlock-start, helperBlock-same}
 use Rattle.amend.specs.Amending.{state, lastBlock, chained, signedFrom}
 use Rattle.amend.specs.declared.Open.{Open}
-use Rattle.amend.specs.Opening.{held, covered, message, chainsOf, openedOf, refusedOpening, openChecked, openData, openOf}
+use Rattle.amend.specs.Opening.{held, chainsOf, openedOf, refusedOpening, openChecked, openData, openOf}
 use Rattle.amend.proofs.Stores.{part-after, part-stored}
 use Rattle.amend.proofs.Chains.{Right, table-right, carried-table, block-behind, signed-right}
 

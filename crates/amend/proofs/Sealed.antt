@@ -11,10 +11,9 @@ use Rattle.base.specs.Bytes.{at, part}
 use Rattle.frame.specs.Conditions.{IsData}
 use Rattle.frame.specs.Layout.{fcnt, payloadEnd, headerEnd, header, payload, micOf}
 use Rattle.secure.specs.Sealing.{payloadKey, enciphered, sealed}
-use Rattle.secure.specs.Security.{crypted, dataMic}
+use Rattle.secure.specs.Security.{crypted, covered, dataMic}
 use Rattle.frame.proofs.LayoutLaws.{placed, parts, length-header, length-payload}
 use Rattle.secure.proofs.SecurityLaws.{crypted-long, crypted-twice, dataMic-long}
-use Rattle.amend.specs.Opening.{covered}
 use Rattle.amend.specs.Listed.{clearOf}
 use Rattle.amend.proofs.Accepted.{Accepted}
 

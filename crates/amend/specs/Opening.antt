@@ -5,7 +5,7 @@
 use mathlib.Core.List.{List, _++_}
 use Prim.Native.Nat.{ℕ, _+_, _-_, _/_, _%_}
 use lib.Dec.{leb, eqb}
-use lib.ListN.{length, take, replicate}
+use lib.ListN.{length, replicate}
 use Rattle.base.specs.Bytes.{pick, tab, at}
 use Rattle.aes.specs.Fips197.{keyExpansion}
 use Rattle.cmac.specs.Rfc4493.{chain}
@@ -13,7 +13,7 @@ use Rattle.cmac.specs.Compared.{sameBytes}
 use Rattle.frame.specs.Layout.{fcnt, micOf}
 use Rattle.frame.specs.Numbers.{onData}
 use Rattle.frame.specs.Reading.{readOf}
-use Rattle.secure.specs.Security.{helperBlock, dataMic}
+use Rattle.secure.specs.Security.{covered, message, dataMic}
 use Rattle.amend.specs.declared.Open.{Open}
 use Rattle.amend.specs.declared.Opened.{Opened}
 use Rattle.amend.specs.Amending.{state, lastBlock}
@@ -21,14 +21,6 @@ use Rattle.amend.specs.Amending.{state, lastBlock}
 -- a frame as a state holds it: zeros behind it up to 255 bytes
 unfoldable pub held : List ℕ → List ℕ
 held f = f ++ replicate (255 - length f) 0
-
--- what the MIC of a frame covers: every byte ahead of it
-abbrev pub covered : List ℕ → List ℕ
-covered f = take (length f - 4) f
-
--- 4.4 the message of the MIC: B_0, whose last byte is the length of what is covered, and that
-unfoldable pub message : List ℕ → ℕ → List ℕ
-message msg counter = helperBlock 0x49 msg counter (length msg % 256) ++ msg
 
 -- the chain values of the message m ahead of the frame's blocks 0 to last, sixteen bytes each, then zeros
 unfoldable pub chainsOf : List ℕ → List ℕ → ℕ → List ℕ

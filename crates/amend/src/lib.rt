@@ -8,7 +8,8 @@ ghost use lib.Seq.{sets};
 ghost use Rattle.base.specs.Bytes.{part, pick};
 ghost use Rattle.frame.specs.Layout.{fport, payloadStart, micOf};
 ghost use Rattle.amend.specs.Amending.{mask, lastBlock, chained, signedFrom, carried, resigned, amendedTo, amendOf};
-ghost use Rattle.amend.specs.Opening.{covered, message, chainsOf, openedOf, nothing, refusedOpening, openChecked, openOf};
+ghost use Rattle.secure.specs.Security.{covered, message};
+ghost use Rattle.amend.specs.Opening.{chainsOf, openedOf, nothing, refusedOpening, openChecked, openOf};
 ghost use Rattle.amend.specs.Listed.{amendAll, amendFrameOf, amendedFrame};
 use frame::parser::Reading;
 

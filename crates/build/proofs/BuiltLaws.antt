@@ -15,13 +15,13 @@ use Rattle.base.proofs.Put.{Put, put-front, then}
 use Rattle.aes.specs.Fips197.{keyExpansion, invCipher}
 use Rattle.build.specs.Frames.{builtOf, outOf, Builds, signed, dataFrame}
 use Rattle.build.specs.Building.{bodyOf, dataHeader, dataLength, clearData}
-use Rattle.secure.specs.JoinAccept.{eachBlock, fromOne, acceptEncrypted}
+use Rattle.payload.specs.JoinAccept.{eachBlock, fromOne, acceptEncrypted}
 use Rattle.secure.specs.Sealing.{sealed}
 use Rattle.secure.specs.Security.{joinMic}
 use Rattle.build.specs.declared.creator.Built.{Built}
 use Rattle.build.specs.declared.creator.Built.the-variants.{Frame, Refused}
 use Rattle.build.specs.declared.creator.DataParts.{DataParts}
-use Rattle.secure.proofs.Blocks.{accept-long}
+use Rattle.payload.proofs.Blocks.{accept-long}
 use Rattle.secure.proofs.SealingLaws.{sealed-long}
 use Rattle.secure.proofs.SecurityLaws.{joinMic-long}
 

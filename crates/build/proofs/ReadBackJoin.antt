@@ -22,7 +22,7 @@ use Rattle.frame.specs.Conditions.{IsJoinRequest, IsJoinAccept}
 use Rattle.frame.specs.Joining.{requestFields, acceptFields, cfListOf, frequenciesOf, masksOf, frequencyAt, zeros}
 use Rattle.build.specs.Building.{acceptHead, cfListBytes, frequencyBytes, tooHigh, joinAcceptBody, joinAcceptLength, joinAcceptRefusal, joinRequestBody}
 use Rattle.build.specs.Frames.{signed, joinRequest, joinAccept}
-use Rattle.secure.specs.JoinAccept.{acceptDecrypted}
+use Rattle.payload.specs.JoinAccept.{acceptDecrypted}
 use Rattle.secure.specs.Security.{joinMic}
 use Rattle.frame.specs.declared.parser.CfList.{CfList}
 use Rattle.frame.specs.declared.parser.CfList.the-variants.{Absent, Frequencies, Masks}
@@ -31,7 +31,7 @@ use Rattle.frame.specs.declared.parser.JoinRequestFields.{JoinRequestFields}
 use Rattle.frame.specs.declared.parser.Reading.the-variants.{JoinRequest, JoinAccept}
 use Rattle.build.specs.declared.creator.JoinAcceptParts.{JoinAcceptParts}
 use Rattle.build.specs.declared.creator.JoinRequestParts.{JoinRequestParts}
-use Rattle.secure.proofs.Blocks.{accept-long, accept-first, accept-undone}
+use Rattle.payload.proofs.Blocks.{accept-long, accept-first, accept-undone}
 use Rattle.build.proofs.BuiltLaws.{signed-long}
 use Rattle.build.proofs.JoinBodies.{request-written, length-request, head-written, body-and-mic, accept-byte, accept-low}
 use Rattle.frame.proofs.ReadingLaws.{reads-request, reads-accept}

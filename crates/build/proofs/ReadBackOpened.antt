@@ -22,14 +22,15 @@ use Rattle.frame.specs.declared.parser.FrmPayload.the-variants.{Data as PlainDa
 use Rattle.frame.specs.Numbers.{onAccept}
 use Rattle.frame.proofs.ReadingLaws.{data-read, request-read}
 use Rattle.frame.proofs.ReadingSteps.{port-there, port-absent, payload-commands, payload-data}
-use Rattle.secure.specs.Opening.{Result, result, unopened, message, joinPasses, joinRequestTest, dataTest, acceptTested, acceptOpenedChecked, dataOpened, givenKey}
-use Rattle.secure.specs.JoinAccept.{acceptDecrypted}
+use Rattle.payload.specs.Opening.{Result, result, unopened, joinPasses, joinRequestTest, dataTest, dataOpened, givenKey}
+use Rattle.default_crypto.specs.Checked.{acceptTested, acceptOpenedChecked}
+use Rattle.payload.specs.JoinAccept.{acceptDecrypted}
 use Rattle.secure.specs.Sealing.{payloadKey}
-use Rattle.secure.specs.Security.{crypted, fullCounter, joinMic}
-use Rattle.secure.specs.declared.payload.MicTest.the-variants.{Passes}
-use Rattle.secure.specs.declared.payload.Opening.the-variants.{Opened}
-use Rattle.secure.proofs.DecryptionLaws.{request-mic-exactly, data-mic-exactly}
-use Rattle.secure.proofs.OpenedLaws.{opened-both}
+use Rattle.secure.specs.Security.{crypted, fullCounter, covered, joinMic}
+use Rattle.payload.specs.declared.MicTest.the-variants.{Passes}
+use Rattle.payload.specs.declared.Opening.the-variants.{Opened}
+use Rattle.payload.proofs.DecryptionLaws.{request-mic-exactly, data-mic-exactly}
+use Rattle.payload.proofs.OpenedLaws.{opened-both}
 use Rattle.cmac.proofs.Compared.{test-of-same}
 use Rattle.build.specs.Building.{bodyOf, dataHeader, dataRefusal, joinAcceptBody}
 use Rattle.build.specs.Frames.{dataFrame, signed}
@@ -120,5 +121,5 @@ accept-opens key j channels f b =
     let g = acceptDecrypted key f in
     ap (onAccept (λ n. acceptTested key f) (unopened f)) (b .reads)
     ∙ ap (λ (t : Bool). pick t (result Opened g) (unopened f 5 0))
-    (test-of-same (micOf g) (joinMic key (message g)) (b .mic))
+    (test-of-same (micOf g) (joinMic key (covered g)) (b .mic))
     ∙ ap (result Opened) (b .clear)

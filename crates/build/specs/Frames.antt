@@ -8,7 +8,7 @@ use lib.Dec.{eqb}
 use lib.ListN.{length, drop}
 use Rattle.base.specs.Bytes.{pick}
 use Rattle.build.specs.Building.{bodyOf, dataHeader, joinAcceptBody, joinRequestBody}
-use Rattle.secure.specs.JoinAccept.{acceptEncrypted}
+use Rattle.payload.specs.JoinAccept.{acceptEncrypted}
 use Rattle.secure.specs.Sealing.{sealed}
 use Rattle.secure.specs.Security.{joinMic}
 use Rattle.build.specs.declared.creator.Built.{Built}

@@ -20,7 +20,7 @@ ghost use lib.Seq.{sets};
 ghost use Rattle.base.specs.Bytes.{at, part};
 ghost use Rattle.base.proofs.Put.{Put};
 ghost use Rattle.aes.specs.Fips197.{invCipher};
-ghost use Rattle.secure.specs.JoinAccept.{eachBlock};
+ghost use Rattle.payload.specs.JoinAccept.{eachBlock};
 ghost use Rattle.build.specs.Building.{acceptHead, bodyOf, cfListBytes, clearData, dataRefusal, fixedHeader, frequencyBytes, joinAcceptBody, joinAcceptLength, joinAcceptRefusal, joinRequestBody, joinRequestRefusal, mhdrOf, tooHigh};
 ghost use Rattle.build.specs.Frames.{Builds, dataFrame, joinAccept, joinRequest};
 ghost use Rattle.secure.specs.Sealing.{payloadKey, sealed};

@@ -3,8 +3,8 @@
 use mathlib.Core.Path.{_≡_, ap, _∙_}
 use mathlib.Core.List.{List}
 use Prim.Native.Nat.{ℕ}
-use Rattle.secure.specs.Opening.{Result, result}
-use Rattle.secure.specs.declared.payload.Opening.{Opening}
+use Rattle.payload.specs.Opening.{Result, result}
+use Rattle.payload.specs.declared.Opening.{Opening}
 use Rattle.frame_c.specs.Answers.{openingAnswer}
 
 pub opened : {o : Opening} {e : List ℕ} {x y : Result} {r : ℕ} → result o e ≡ x → x ≡ y → r ≡ openingAnswer o

@@ -11,10 +11,10 @@ use Rattle.amend.specs.declared.Outcome.{Outcome}
 use Rattle.build.specs.Frames.{builtOf, outOf}
 use Rattle.build.specs.declared.creator.Built.{Built}
 use Rattle.build.specs.declared.creator.Built.the-variants.{Frame, Refused as RefusedBuilding}
-use Rattle.secure.specs.Opening.{testNumber, testPlace, openingNumber, openingPlace}
-use Rattle.secure.specs.declared.payload.MicTest.{MicTest}
-use Rattle.secure.specs.declared.payload.MicTest.the-variants.{Passes, Fails, Refused}
-use Rattle.secure.specs.declared.payload.Opening.{Opening}
+use Rattle.payload.specs.Opening.{testNumber, testPlace, openingNumber, openingPlace}
+use Rattle.payload.specs.declared.MicTest.{MicTest}
+use Rattle.payload.specs.declared.MicTest.the-variants.{Passes, Fails, Refused}
+use Rattle.payload.specs.declared.Opening.{Opening}
 
 -- the value above the low byte counts modulo 65,536
 unfoldable pub answerOf : ℕ → ℕ → ℕ

@@ -8,7 +8,7 @@ use Rattle.base.specs.Bytes.{pick, at}
 use Rattle.frame.specs.Numbers.{numberOf, placeOf, valuesOf}
 use Rattle.frame.specs.Reading.{readOf}
 use Rattle.frame.specs.declared.parser.Values.{Values}
-use Rattle.secure.specs.declared.payload.SessionKeys.{SessionKeys}
+use Rattle.payload.specs.declared.SessionKeys.{SessionKeys}
 use Rattle.frame_c.specs.Answers.{orShort, Fills}
 
 -- of the frame's first byte, its length and the values of its reading: the type, FCtrl, FCnt low and high, the place past

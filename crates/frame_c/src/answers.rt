@@ -1,9 +1,9 @@
 // Answers as one number each.
 ghost use mathlib.Core.Path.{_≡_};
-ghost use Rattle.secure.specs.Opening.{testNumber, testPlace, openingNumber, openingPlace};
+ghost use Rattle.payload.specs.Opening.{testNumber, testPlace, openingNumber, openingPlace};
 ghost use Rattle.frame_c.specs.Answers.{answerOf, testAnswer, passesOf, openingAnswer};
-use secure::payload::MicTest;
-use secure::payload::Opening;
+use payload::MicTest;
+use payload::Opening;
 
 // A number in the low byte and a value above it, which is taken modulo 65,536.
 pub(crate) fn answer(number: u8, value: usize) -> u64

@@ -1,6 +1,7 @@
 // MIC tests, decryption and session keys.
 ghost use mathlib.Core.Path.{_≡_};
-ghost use Rattle.secure.specs.Opening.{joinRequestTest, joinAcceptTest, dataTest, dataOpened, dataOpenedChecked, acceptOpened, acceptOpenedChecked, sessionKeys};
+ghost use Rattle.payload.specs.Opening.{joinRequestTest, joinAcceptTest, dataTest, dataOpened, acceptOpened, sessionKeys};
+ghost use Rattle.default_crypto.specs.Checked.{dataOpenedChecked, acceptOpenedChecked};
 ghost use Rattle.frame_c.specs.Answers.{testAnswer, passesOf, openingAnswer};
 ghost use Rattle.frame_c.specs.Fields.{KeysInto};
 ghost use Rattle.frame_c.specs.Given.{nwkGiven, appGiven};
@@ -24,7 +25,7 @@ pub extern "C" fn zinovoky_join_request_mic(
         ≡ passesOf (joinRequestTest (now («app_key» .entry)) (now (frame .entry))) (now (passes .entry)) ⌝ }
 {
     let key = *app_key;
-    let test = secure::payload::join_request_mic(frame, key);
+    let test = payload::join_request_mic(frame, key);
     let was = *passes;
     *passes = passes_of(test, was);
     test_answer(test)
@@ -38,7 +39,7 @@ pub extern "C" fn zinovoky_join_accept_mic(frame: &[u8], app_key: &[u8; 16], pas
         ≡ passesOf (joinAcceptTest (now («app_key» .entry)) (now (frame .entry))) (now (passes .entry)) ⌝ }
 {
     let key = *app_key;
-    let test = secure::payload::join_accept_mic(frame, key);
+    let test = payload::join_accept_mic(frame, key);
     let was = *passes;
     *passes = passes_of(test, was);
     test_answer(test)
@@ -57,7 +58,7 @@ pub extern "C" fn zinovoky_data_mic(
         ≡ passesOf (dataTest (now («nwk_skey» .entry)) counter (now (frame .entry))) (now (passes .entry)) ⌝ }
 {
     let key = *nwk_skey;
-    let test = secure::payload::data_mic(frame, key, counter);
+    let test = payload::data_mic(frame, key, counter);
     let was = *passes;
     *passes = passes_of(test, was);
     test_answer(test)
@@ -104,7 +105,7 @@ pub extern "C" fn zinovoky_decrypt_data(
     let app_key = *app_skey;
     let nwk = nwk_given(keys_given, nwk_key);
     let app = app_given(keys_given, app_key);
-    let opening = secure::payload::decrypt_data(frame, nwk, app, counter);
+    let opening = payload::decrypt_data(frame, nwk, app, counter);
     opening_answer(opening)
 }
 
@@ -129,7 +130,7 @@ pub extern "C" fn zinovoky_decrypt_data_checked(
     let nwk_key = *nwk_skey;
     let app_key = *app_skey;
     let app = app_given(keys_given, app_key);
-    let opening = secure::default_crypto::decrypt_data_checked(frame, nwk_key, app, counter);
+    let opening = default_crypto::decrypt_data_checked(frame, nwk_key, app, counter);
     opening_answer(opening)
 }
 
@@ -139,7 +140,7 @@ pub extern "C" fn zinovoky_decrypt_join_accept(frame: &mut [u8], app_key: &[u8; 
     ensures { λ _. ⌜ now (frame .exit) ≡ acceptOpened (now («app_key» .entry)) (now (frame .entry)) .bytes ⌝ }
 {
     let key = *app_key;
-    let opening = secure::payload::decrypt_join_accept(frame, key);
+    let opening = payload::decrypt_join_accept(frame, key);
     opening_answer(opening)
 }
 
@@ -149,7 +150,7 @@ pub extern "C" fn zinovoky_decrypt_join_accept_checked(frame: &mut [u8], app_key
     ensures { λ _. ⌜ now (frame .exit) ≡ acceptOpenedChecked (now («app_key» .entry)) (now (frame .entry)) .bytes ⌝ }
 {
     let key = *app_key;
-    let opening = secure::default_crypto::decrypt_join_accept_checked(frame, key);
+    let opening = default_crypto::decrypt_join_accept_checked(frame, key);
     opening_answer(opening)
 }
 
@@ -168,7 +169,7 @@ pub extern "C" fn zinovoky_session_keys(
 {
     let nonce = *dev_nonce;
     let key = *app_key;
-    let session = secure::payload::session_keys(frame, nonce, key);
+    let session = payload::session_keys(frame, nonce, key);
     let place = session.place;
     let refusal = or_short(session.number, KEYS_LEN, keys.len());
     if refusal != 0 {

@@ -10,10 +10,8 @@ use crate::input::number_at;
 use crate::input::two_at;
 use crate::output::put;
 use crate::output::put_all;
-use secure::default_crypto;
-use secure::payload;
-use secure::payload::MicTest;
-use secure::payload::Opening;
+use payload::MicTest;
+use payload::Opening;
 
 // Where the frame's length stands, by the kind.
 fn frame_place(kind: u8) -> usize {

@@ -1,7 +1,3 @@
-pub mod Blocks
-pub mod DecryptionLaws
 pub mod Determined
-pub mod OpenedLaws
-pub mod OpeningLaws
 pub mod SealingLaws
 pub mod SecurityLaws

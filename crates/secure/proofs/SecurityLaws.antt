@@ -11,7 +11,7 @@ use Rattle.base.specs.Bytes.{tab, at, part, _⊕_, AreBytes}
 use Rattle.base.specs.Mask.{masked}
 use Rattle.base.proofs.Each.{each}
 use Rattle.base.proofs.Mask.{masked-long, masked-at, masked-byte, masked-same, masked-twice, masked-set}
-use Rattle.base.proofs.Lent.{part-long, same-start, put-before, put-part, put-after, put-same}
+use Rattle.base.proofs.Lent.{part-long, same-start, put-back, put-before, put-part, put-after, put-same}
 use Rattle.base.proofs.Parts.{bytes-append}
 use Rattle.aes.specs.Fips197.{keyExpansion, cipher}
 use Rattle.aes.proofs.Laws.{schedule-byte, cipher-byte}
@@ -19,7 +19,7 @@ use Rattle.cmac.specs.Rfc4493.{mac, mic}
 use Rattle.cmac.specs.Running.{started, absorbed, absorbedAll, joined, finished}
 use Rattle.cmac.proofs.Laws.{mac-cutting, mic-long, mic-byte}
 use Rattle.frame.specs.Layout.{direction}
-use Rattle.secure.specs.Security.{startOf, helperBlock, blockNumber, streamAt, streamUnder, crypted, cryptedPart, fullCounter, dataMic, joinMic}
+use Rattle.secure.specs.Security.{startOf, helperBlock, blockNumber, streamAt, streamUnder, crypted, cryptedPart, fullCounter, message, dataMic, joinMic}
 
 -- ---- the helper block
 
@@ -145,6 +145,15 @@ cryptedPart-twice key f counter start end h5 h inside =
     ∙ ap (λ (l : List ℕ). take start f ++ l ++ drop end f) clear
     ∙ put-same start end f h
 
+-- a part that was lent, encrypted under the frame's own first bytes and put back
+pub lent-part : (key f : List ℕ) (counter start end : ℕ) (t : List ℕ) → start ≤ end
+    → t ≡ crypted key (startOf f) counter (part start (end - start) f)
+    → take start f ++ (t ++ drop (end - start) (drop start f)) ≡ cryptedPart key f counter start end
+unfolding cryptedPart
+lent-part key f counter start end t h e =
+    put-back start end f t h
+    ∙ ap (λ (l : List ℕ). take start f ++ l ++ drop end f) (e ∙ crypted-start key f counter (part start (end - start) f))
+
 -- a payload under the key's schedule and the frame's A block, whose last byte does not count
 pub crypted-under : (key f : List ℕ) (counter last : ℕ) (p : List ℕ)
     → masked p (streamUnder (keyExpansion key) (helperBlock 1 f counter last)) ≡ crypted key f counter p
@@ -173,11 +182,11 @@ unfolding absorbedAll joined
 two-parts key a b = mac-cutting key (a ∷ b ∷ []) ∙ ap (λ (l : List ℕ). mac key (a ++ l)) (append-nil b)
 
 pub dataMic-long : (key msg : List ℕ) (counter : ℕ) → length (dataMic key msg counter) ≡ 4
-unfolding dataMic
+unfolding dataMic message
 dataMic-long key msg counter = mic-long key (helperBlock 0x49 msg counter (length msg % 256) ++ msg)
 
 pub dataMic-byte : (key msg : List ℕ) (counter : ℕ) → AreBytes key → AreBytes msg → AreBytes (dataMic key msg counter)
-unfolding dataMic
+unfolding dataMic message
 dataMic-byte key msg counter hk hm =
     let block = helperBlock 0x49 msg counter (length msg % 256) in
     let block-byte : AreBytes block =

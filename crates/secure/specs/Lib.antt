@@ -1,4 +1,2 @@
-pub mod JoinAccept
-pub mod Opening
 pub mod Sealing
 pub mod Security

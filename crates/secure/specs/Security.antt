@@ -46,11 +46,18 @@ streamUnder schedule block j = at (cipher schedule (set block 15 (blockNumber j)
 unfoldable pub fullCounter : ℕ → ℕ → ℕ
 fullCounter counter fcnt = counter / 65536 * 65536 + fcnt
 
--- 4.4 the MIC of a data message, which is every byte of the frame ahead of the MIC: of the block B_0, whose last byte is
--- the message's length, and the message
-unfoldable pub dataMic : List ℕ → List ℕ → ℕ → List ℕ
-dataMic key msg counter = mic key (helperBlock 0x49 msg counter (length msg % 256) ++ msg)
+-- 4.4, 6.2.4, 6.2.5 what the MIC of a frame covers: every byte ahead of it
+abbrev pub covered : List ℕ → List ℕ
+covered f = take (length f - 4) f
 
--- 6.2.4, 6.2.5 the MIC of a join message, of all bytes ahead of it
+-- 4.4 the message of a data frame's MIC: B_0, whose last byte is the length of what is covered, and that
+unfoldable pub message : List ℕ → ℕ → List ℕ
+message msg counter = helperBlock 0x49 msg counter (length msg % 256) ++ msg
+
+-- 4.4 the MIC of a data frame, of what it covers
+unfoldable pub dataMic : List ℕ → List ℕ → ℕ → List ℕ
+dataMic key msg counter = mic key (message msg counter)
+
+-- 6.2.4, 6.2.5 the MIC of a join message, of what it covers
 unfoldable pub joinMic : List ℕ → List ℕ → List ℕ
 joinMic key msg = mic key msg

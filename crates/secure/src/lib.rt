@@ -1,5 +1,2 @@
-// Keys and secrets of a LoRaWAN 1.0 frame, after crate lorawan 0.9.0: one module to a file of that crate, and `payload`
-// for the cryptographic half of its parser.rs.
-pub mod default_crypto;
-pub mod payload;
+// Keys and secrets of a LoRaWAN 1.0 frame, after crate lorawan 0.9.0: the module has the name of that crate's file.
 pub mod securityhelpers;

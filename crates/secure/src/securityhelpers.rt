@@ -1,12 +1,12 @@
 // The helper blocks, MICs, payload encryption and the counter (securityhelpers.rs of the crate).
 ghost use mathlib.Core.Path.{_≡_};
-ghost use Prim.Native.Nat.{_+_, _≤_, _-_, min};
+ghost use Prim.Native.Nat.{_+_, _≤_, min};
 ghost use mathlib.Core.List.{_++_};
 ghost use lib.ListN.{length};
 ghost use Rattle.base.specs.Bytes.{at};
 ghost use Rattle.base.specs.Mask.{masked};
 ghost use Rattle.cmac.specs.Rfc4493.{mic};
-ghost use Rattle.secure.specs.Security.{startOf, helperBlock, blockNumber, streamUnder, crypted, cryptedPart, fullCounter, dataMic, joinMic};
+ghost use Rattle.secure.specs.Security.{startOf, helperBlock, blockNumber, streamUnder, crypted, fullCounter, dataMic, joinMic};
 
 // The byte at an index, and 0 past the end.
 fn byte_or_zero(bytes: &[u8], i: usize) -> u8
@@ -108,15 +108,6 @@ pub fn encrypt_frm_data_payload(key: [u8; 16], start: [u8; 5], counter: u32, pay
     let schedule = aes::expand(key);
     let block = helper_block(1, start, counter, 0);
     xor_stream(&schedule, block, payload);
-}
-
-// The same for the bytes start..end of a frame.
-pub(crate) fn encrypt_part(key: [u8; 16], frame: &mut [u8], start: usize, end: usize, counter: u32)
-    requires { ⌜ (start ≤ end) × (end ≤ length (now frame)) ⌝ }
-    ensures { λ _. ⌜ now (frame .exit) ≡ cryptedPart key (now (frame .entry)) counter start end ⌝ }
-{
-    let first = start_of(frame);
-    encrypt_frm_data_payload(key, first, counter, &mut frame[start..end]);
 }
 
 // The counter of a frame that carries its low half: the high half is the caller's.

@@ -7,8 +7,8 @@ use borrow.Author.Needs.{needs}
 use lib.ListN.{length}
 use Rattle.cmac.specs.Compared.{sameBytes}
 use Rattle.frame.specs.Layout.{micOf}
-use Rattle.secure.specs.Security.{dataMic}
-use Rattle.amend.specs.Opening.{covered, openChecked}
+use Rattle.secure.specs.Security.{covered, dataMic}
+use Rattle.amend.specs.Opening.{openChecked}
 use Rattle.amend.proofs.OpeningLaws.{state-mic}
 use Rattle.amend.proofs.open_checked.Statement.{statement}
 use Rattle.amend.proofs.open_checked.Tie as tie

@@ -6,7 +6,7 @@ use borrow.Author.Needs.{needs}
 use lib.ListN.{length}
 use Rattle.aes.specs.Fips197.{invCipher}
 use Rattle.aes.proofs.Laws.{invCipher-long}
-use Rattle.secure.proofs.Blocks.{Blocking, start, step, done}
+use Rattle.payload.proofs.Blocks.{Blocking, start, step, done}
 use Rattle.build.proofs.creator.decrypt_blocks.Statement.{statement}
 use Rattle.build.proofs.creator.decrypt_blocks.Tie as tie
 

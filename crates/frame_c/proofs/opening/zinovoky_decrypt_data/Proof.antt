@@ -2,7 +2,7 @@
 -- Assumes nothing.
 use borrow.Author.Needs.{needs}
 use denote.Ref.{now}
-use Rattle.secure.specs.Opening.{dataOpened}
+use Rattle.payload.specs.Opening.{dataOpened}
 use Rattle.frame_c.specs.Given.{nwkGiven, appGiven}
 use Rattle.frame_c.proofs.Opened.{opened}
 use Rattle.frame_c.proofs.opening.zinovoky_decrypt_data.Statement.{statement}

@@ -2,7 +2,7 @@
 -- Assumes nothing.
 use borrow.Author.Needs.{needs}
 use denote.Ref.{now}
-use Rattle.secure.specs.Opening.{dataOpenedChecked}
+use Rattle.default_crypto.specs.Checked.{dataOpenedChecked}
 use Rattle.frame_c.specs.Given.{appGiven}
 use Rattle.frame_c.proofs.Opened.{opened}
 use Rattle.frame_c.proofs.opening.zinovoky_decrypt_data_checked.Statement.{statement}

@@ -8,7 +8,7 @@ use native.Mathlib.Omega.{arith}
 use denote.Ref.{now}
 use lib.ListN.{length, length-append}
 use Rattle.base.proofs.Put.{then, put-length}
-use Rattle.secure.specs.declared.payload.SessionKeys.{SessionKeys}
+use Rattle.payload.specs.declared.SessionKeys.{SessionKeys}
 use Rattle.frame_c.specs.Answers.{orShort}
 use Rattle.frame_c.proofs.Fillings.{room-left, refused, stored}
 use Rattle.frame_c.proofs.opening.zinovoky_session_keys.Statement.{statement}

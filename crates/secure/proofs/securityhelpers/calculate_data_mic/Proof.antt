@@ -3,13 +3,13 @@
 use Prim.Native.Nat.{_%_}
 use lib.ListN.{length}
 use borrow.Author.Needs.{needs}
-use Rattle.secure.specs.Security.{dataMic}
+use Rattle.secure.specs.Security.{message, dataMic}
 use Rattle.secure.proofs.SecurityLaws.{helperBlock-start}
 use Rattle.secure.proofs.securityhelpers.calculate_data_mic.Statement.{statement}
 use Rattle.secure.proofs.securityhelpers.calculate_data_mic.Tie as tie
 
 returns : tie.Need-returns
-unfolding dataMic
+unfolding dataMic message
 returns c =
     let args = c .before .before .before .before .args in
     cc (helperBlock-start 0x49 (args .message .now) (args .counter) (length (args .message .now) % 256))

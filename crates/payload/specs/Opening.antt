@@ -1,0 +1,134 @@
+-- What testing and opening a frame gives, from LoRaWAN 1.0: the MIC (4.4, 6.2.4, 6.2.5), the payload (4.3.3), a
+-- join-accept and its session keys (6.2.5). The refusals come in the order of document 01: reading, 5, 6; what is refused
+-- leaves every byte as it was.
+-- Assumes nothing.
+use mathlib.Core.Bool.{Bool, true, false}
+use mathlib.Core.List.{List, _∷_, _++_}
+use Prim.Native.Nat.{ℕ, _-_}
+use lib.Dec.{eqb}
+use lib.ListN.{length, take}
+use Rattle.base.specs.Bytes.{pick, tab, part}
+use Rattle.aes.specs.Fips197.{keyExpansion, cipher}
+use Rattle.cmac.specs.Compared.{sameBytes}
+use Rattle.frame.specs.Layout.{fcnt, headerEnd, payloadEnd, micOf}
+use Rattle.payload.specs.JoinAccept.{acceptDecrypted}
+use Rattle.frame.specs.Numbers.{portNumber, onRequest, onAccept, onData}
+use Rattle.frame.specs.Reading.{readOf}
+use Rattle.secure.specs.Security.{cryptedPart, fullCounter, covered, dataMic, joinMic}
+use Rattle.frame.specs.declared.keys.MaybeKey.{MaybeKey}
+use Rattle.frame.specs.declared.parser.FPort.{FPort}
+use Rattle.payload.specs.declared.MicTest.{MicTest}
+use Rattle.payload.specs.declared.MicTest.the-variants.{Passes, Fails, Refused as RefusedTest}
+use Rattle.payload.specs.declared.Opening.{Opening}
+use Rattle.payload.specs.declared.Opening.the-variants.{Opened, Refused}
+use Rattle.payload.specs.declared.SessionKeys.{SessionKeys}
+
+-- ---- 4.4, 6.2.4, 6.2.5 the MIC
+
+-- 6.2.4, 6.2.5 a join message under AppKey, a join-accept given clear
+unfoldable pub joinPasses : List ℕ → List ℕ → Bool
+joinPasses key f = sameBytes (micOf f) (joinMic key (covered f))
+
+-- 4.4 a data message under NwkSKey and the whole 32-bit counter
+unfoldable pub dataPasses : List ℕ → ℕ → List ℕ → Bool
+dataPasses key counter f = sameBytes (micOf f) (dataMic key (covered f) counter)
+
+abbrev pub answered : Bool → MicTest
+answered passes = pick passes Passes Fails
+
+unfoldable pub joinRequestTest : List ℕ → List ℕ → MicTest
+joinRequestTest key f = onRequest (answered (joinPasses key f)) RefusedTest (readOf f)
+
+unfoldable pub joinAcceptTest : List ℕ → List ℕ → MicTest
+joinAcceptTest key f = onAccept (λ n. answered (joinPasses key f)) RefusedTest (readOf f)
+
+unfoldable pub dataTest : List ℕ → ℕ → List ℕ → MicTest
+dataTest key counter f = onData (λ d. answered (dataPasses key counter f)) RefusedTest (readOf f)
+
+-- its number (0 where the test was made), its place, and whether it passes
+abbrev pub testNumber : MicTest → ℕ
+testNumber Passes = 0
+testNumber Fails = 0
+testNumber (RefusedTest n p) = n
+
+abbrev pub testPlace : MicTest → ℕ
+testPlace Passes = 0
+testPlace Fails = 0
+testPlace (RefusedTest n p) = p
+
+abbrev pub testPasses : MicTest → Bool
+testPasses Passes = true
+testPasses Fails = false
+testPasses (RefusedTest n p) = false
+
+-- ---- opening: the answer, and the bytes of the lent frame as the call returns
+
+-- its number (0 where the frame was opened) and its place
+abbrev pub openingNumber : Opening → ℕ
+openingNumber Opened = 0
+openingNumber (Refused n p) = n
+
+abbrev pub openingPlace : Opening → ℕ
+openingPlace Opened = 0
+openingPlace (Refused n p) = p
+
+pub record Result : Type 0 where
+  pub answer : Opening
+  pub bytes : List ℕ
+
+abbrev pub result : Opening → List ℕ → Result
+result a f = record { answer = a; bytes = f }
+
+-- a refusal leaves the frame as it was
+abbrev pub unopened : List ℕ → ℕ → ℕ → Result
+unopened f number place = result (Refused number place) f
+
+-- ---- 4.3.3 the payload of a data frame
+
+-- port 0 or absent selects NwkSKey, another port AppSKey
+abbrev pub selected : FPort → MaybeKey → MaybeKey → MaybeKey
+selected port nwk app = pick (eqb (portNumber port) 0) nwk app
+
+-- the payload decrypted where it lies: the counter's high half is the caller's, its low half the frame's
+unfoldable pub decrypted : List ℕ → ℕ → List ℕ → List ℕ
+decrypted key counter f = cryptedPart key f (fullCounter counter (fcnt f)) (headerEnd f) (payloadEnd f)
+
+-- 6 where the key was not given
+unfoldable pub openedUnder : MaybeKey → ℕ → List ℕ → Result
+openedUnder key counter f = pick (key .given) (result Opened (decrypted (key .key) counter f)) (unopened f 6 0)
+
+unfoldable pub dataOpened : MaybeKey → MaybeKey → ℕ → List ℕ → Result
+dataOpened nwk app counter f =
+    onData (λ d. openedUnder (selected (d .port) nwk app) counter f) (unopened f) (readOf f)
+
+abbrev pub givenKey : List ℕ → MaybeKey
+givenKey key = record { given = true; key = key }
+
+-- ---- 6.2.5 a join-accept
+
+unfoldable pub acceptOpened : List ℕ → List ℕ → Result
+acceptOpened key f = onAccept (λ n. result Opened (acceptDecrypted key f)) (unopened f) (readOf f)
+
+-- ---- 6.2.5 session keys: AES under AppKey of 1 (NwkSKey) or 2 (AppSKey), AppNonce, NetID, DevNonce, and zeros
+
+unfoldable pub keyBlock : ℕ → List ℕ → List ℕ → List ℕ → List ℕ
+keyBlock first appNonce netId devNonce = first ∷ (appNonce ++ (netId ++ (devNonce ++ tab 7 (λ i. 0))))
+
+unfoldable pub sessionKey : ℕ → List ℕ → List ℕ → List ℕ → List ℕ
+sessionKey first key devNonce f = cipher (keyExpansion key) (keyBlock first (part 1 3 f) (part 4 3 f) devNonce)
+
+unfoldable pub derivedKeys : List ℕ → List ℕ → List ℕ → SessionKeys
+derivedKeys key devNonce f =
+    record {
+      number = 0;
+      place = 0;
+      «nwk_skey» = sessionKey 1 key devNonce f;
+      «app_skey» = sessionKey 2 key devNonce f;
+    }
+
+unfoldable pub noKeys : ℕ → ℕ → SessionKeys
+noKeys number place =
+    record { number = number; place = place; «nwk_skey» = tab 16 (λ i. 0); «app_skey» = tab 16 (λ i. 0) }
+
+unfoldable pub sessionKeys : List ℕ → List ℕ → List ℕ → SessionKeys
+sessionKeys key devNonce f = onAccept (λ n. derivedKeys key devNonce f) noKeys (readOf f)
