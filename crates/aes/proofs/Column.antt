@@ -11,7 +11,7 @@ use Rattle.base.specs.Bytes.{tab, at, _⊕_, AreBytes}
 use Rattle.base.proofs.Tab.{tab-ext}
 use Rattle.base.proofs.Tested.{agree}
 use Rattle.base.proofs.Filling.{Filling, step}
-use Rattle.aes.specs.Fips197.{below, mixedAt, mixRow, mixColumns, invMixRow, invMixColumns}
+use Rattle.aes.specs.Fips197.{below, mixedAt, mixColumns, invMixRow, invMixColumns}
 use Rattle.aes.proofs.Linear.{fourTimes, unmixed-right}
 
 -- four bytes more

@@ -3,13 +3,13 @@
 -- Assumes nothing.
 use mathlib.Core.Path.{_≡_, refl, sym, ap, ap₂, _∙_, subst}
 use mathlib.Core.List.{List, [], _∷_, _++_, append-nil}
-use Prim.Native.Nat.{ℕ, zero, suc, _+_, _-_, _≤_, _<_, zero-le, suc-le-suc}
-use native.Mathlib.Nat.{not-suc-le-zero, le-of-suc-le-suc, zero-lt-suc, suc-add, add-zero, zero-add}
+use Prim.Native.Nat.{ℕ, zero, suc, _+_, _-_, _≤_, _<_}
+use native.Mathlib.Nat.{le-of-suc-le-suc, suc-add, add-zero, zero-add}
 use native.Mathlib.Numerals.{add-one}
 use native.Mathlib.Omega.{arith}
-use lib.ListN.{length, getD, take, drop, set, length-set, length-append, length-take, length-drop, drop-of-length-le}
+use lib.ListN.{length, take, drop, set, length-append, length-take, length-drop, drop-of-length-le}
 use lib.Seq.{drop-cons, take-all, take-add, take-at, drop-at, append-snoc, set-split, drop-drop, length-take-le}
-use Rattle.base.specs.Bytes.{tab, at, part, _⊕_, AreBytes}
+use Rattle.base.specs.Bytes.{at, part, _⊕_, AreBytes}
 use Rattle.base.specs.Mask.{masked}
 use Rattle.base.proofs.Lent.{part-long, put-back}
 use Rattle.base.proofs.Tab.{length-tab, at-tab, tab-ext, tab-all}

@@ -1,16 +1,16 @@
 -- The refusals of building: each is given exactly where its test holds and none before it does; what is accepted passes
 -- them all; and with the port known, the tests of data building come down to two lengths.
 -- Assumes nothing.
-use mathlib.Core.Path.{_≡_, refl, sym, ap, ap₂, _∙_, subst}
+use mathlib.Core.Path.{_≡_, sym, ap, ap₂, _∙_, subst}
 use mathlib.Core.Bool.{Bool, true, false, not}
-use mathlib.Core.List.{List, [], _∷_, _++_}
-use Prim.Native.Nat.{ℕ, zero, suc, _+_, _%_, _≤_, _<_}
+use mathlib.Core.List.{List, [], _∷_}
+use Prim.Native.Nat.{ℕ, _+_, _%_, _≤_, _<_}
 use native.Mathlib.Omega.{arith}
 use lib.Dec.{ltb, eqb}
 use lib.ListN.{length, length-append}
-use borrow.Author.Tests.{lt-ltb, le-ltb, ltb-true, ltb-false, eq-eqb, ne-eqb, eqb-true, not-false}
+use borrow.Author.Tests.{lt-ltb, le-ltb, ltb-false, eq-eqb, ne-eqb, eqb-true, not-false}
 use Rattle.base.specs.Bytes.{pick}
-use Rattle.base.proofs.Cases.{by-bool, by-order, by-equal}
+use Rattle.base.proofs.Cases.{by-order, by-equal}
 use Rattle.build.specs.Building.{both, firstOf, isAbsent, isZero, portBytes, foptsOf, bodyOf, dataHeader, clearData, dataLength, dataTests, dataRefusal, joinAcceptTests, joinAcceptRefusal}
 use Rattle.build.specs.Cases.{absentRefusal, portRefusal}
 use Rattle.frame.specs.declared.parser.FPort.{FPort}

@@ -3,22 +3,21 @@
 -- Assumes nothing.
 use mathlib.Core.Path.{_≡_, refl, sym, ap, ap₂, _∙_, subst}
 use mathlib.Core.Bool.{Bool, true, false}
-use mathlib.Core.List.{List, [], _∷_, _++_, append-assoc}
-use Prim.Native.Nat.{ℕ, _+_, _-_, _/_, _≤_, _<_}
+use mathlib.Core.List.{List, _++_, append-assoc}
+use Prim.Native.Nat.{ℕ, _+_, _-_, _/_, _≤_}
 use native.Mathlib.Omega.{arith}
 use lib.Dec.{eqb}
-use lib.ListN.{length, take, drop, length-append, length-drop, take-append-drop}
+use lib.ListN.{length, take, drop, length-append, length-drop}
 use lib.Seq.{take-at, drop-at, drop-drop, take-append-le, drop-append-le}
 use borrow.Author.Tests.{eq-eqb, ne-eqb}
 use Rattle.base.specs.Bytes.{pick, part}
 use Rattle.base.proofs.Put.{Put, put-front, then}
 use Rattle.aes.specs.Fips197.{keyExpansion, invCipher}
-use Rattle.build.specs.Frames.{builtOf, outOf, Builds, signed, dataFrame}
+use Rattle.build.specs.Frames.{Builds, signed, dataFrame}
 use Rattle.build.specs.Building.{bodyOf, dataHeader, dataLength, clearData}
-use Rattle.payload.specs.JoinAccept.{eachBlock, fromOne, acceptEncrypted}
+use Rattle.payload.specs.JoinAccept.{eachBlock, acceptEncrypted}
 use Rattle.secure.specs.Sealing.{sealed}
 use Rattle.secure.specs.Security.{joinMic}
-use Rattle.build.specs.declared.creator.Built.{Built}
 use Rattle.build.specs.declared.creator.Built.the-variants.{Frame, Refused}
 use Rattle.build.specs.declared.creator.DataParts.{DataParts}
 use Rattle.payload.proofs.Blocks.{accept-long}

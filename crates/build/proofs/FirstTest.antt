@@ -2,16 +2,15 @@
 -- and 0 exactly where none holds. The numbers must differ from 0 and from each other, which is computed for a list that is
 -- written out.
 -- Assumes nothing.
-use mathlib.Core.Path.{_≡_, refl, sym, ap, _∙_}
+use mathlib.Core.Path.{_≡_, refl, sym, ap}
 use mathlib.Core.Bool.{Bool, true, false, not}
 use mathlib.Core.List.{List, [], _∷_}
 use Prim.Native.Nat.{ℕ, zero, suc, _<_}
 use native.Mathlib.Nat.{not-suc-le-zero, le-of-suc-le-suc}
 use native.Mathlib.Omega.{arith}
-use lib.Dec.{T, eqb, eqb-refl}
+use lib.Dec.{T, eqb}
 use lib.ListN.{length, take, getD}
 use borrow.Author.Tests.{eq-eqb}
-use Rattle.base.specs.Bytes.{pick}
 use Rattle.base.proofs.Tested.{both, both-left, both-right}
 use Rattle.build.specs.Building.{firstOf}
 

@@ -1,17 +1,15 @@
 -- The header of a built data frame: its length and what stands at each of its places. Its first eight bytes are a list
 -- that is written out, so each place computes.
 -- Assumes nothing.
-use mathlib.Core.Path.{_≡_, refl, sym, ap, ap₂, _∙_}
-use mathlib.Core.Bool.{Bool, true, false}
-use mathlib.Core.List.{List, [], _∷_, _++_, append-assoc}
-use Prim.Native.Nat.{ℕ, zero, suc, _+_, _*_, _/_, _%_, _≤_, _<_}
+use mathlib.Core.Path.{_≡_, sym, ap, ap₂, _∙_}
+use mathlib.Core.Bool.{Bool}
+use mathlib.Core.List.{List, [], _∷_, _++_}
+use Prim.Native.Nat.{ℕ, _+_, _/_, _%_}
 use native.Mathlib.Omega.{arith}
 use borrow.Author.Tests.{ne-eqb}
-use lib.ListN.{length, getD, take, drop, length-append}
-use lib.Seq.{getD-append-add, getD-append-seam}
-use Rattle.base.specs.Bytes.{pick, at, tab, part}
+use lib.ListN.{length, length-append}
+use Rattle.base.specs.Bytes.{pick, at}
 use Rattle.base.proofs.Tab.{tab-at}
-use Rattle.frame.specs.Layout.{mtype, major, direction, devAddr, fctrl, fcnt, fhdrLength}
 use Rattle.build.specs.Building.{mhdrOf, portBytes, foptsOf, bodyOf, fixedHeader, dataHeader, clearData}
 use Rattle.frame.specs.declared.parser.FPort.{FPort}
 use Rattle.frame.specs.declared.parser.FPort.the-variants.{Absent, Port}

@@ -9,20 +9,20 @@ use mathlib.Core.List.{List, [], _∷_, _++_, append-assoc}
 use mathlib.Core.Logic.{_⊎_, inl, inr, ⊎-elim}
 use Prim.Native.Nat.{ℕ, _+_, _-_, _*_, _/_, _%_, _≤_, _<_}
 use native.Mathlib.Omega.{arith}
-use lib.ListN.{length, take, drop, length-append}
+use lib.ListN.{length, take, length-append}
 use lib.Seq.{take-at, drop-at, getD-append-add, getD-append-seam}
-use Rattle.base.specs.Bytes.{pick, at, tab, part}
+use Rattle.base.specs.Bytes.{pick, at, part}
 use Rattle.base.proofs.Tab.{tab-at}
 use Rattle.frame.specs.Layout.{mtype, major, devAddr, fctrl, fcnt, fhdrLength, fport, headerEnd, header, payload, payloadStart, payloadEnd, micOf}
 use Rattle.frame.specs.Reading.{portOf, payloadOf, dataOf, readOf}
 use Rattle.frame.specs.Conditions.{IsData}
-use Rattle.build.specs.Building.{isAbsent, mhdrOf, portBytes, foptsOf, bodyOf, dataHeader, dataRefusal, clearData}
+use Rattle.build.specs.Building.{isAbsent, mhdrOf, portBytes, foptsOf, bodyOf, dataHeader, dataRefusal}
 use Rattle.build.specs.Frames.{dataFrame}
 use Rattle.secure.specs.Sealing.{payloadKey, enciphered, sealed}
 use Rattle.secure.specs.Security.{crypted, dataMic}
 use Rattle.frame.specs.declared.parser.FPort.{FPort}
 use Rattle.frame.specs.declared.parser.FPort.the-variants.{Absent, Port}
-use Rattle.frame.specs.declared.parser.FrmPayload.the-variants.{Nothing, Data as PlainData, MacCommands}
+use Rattle.frame.specs.declared.parser.FrmPayload.the-variants.{Nothing, Data as PlainData}
 use Rattle.frame.specs.declared.parser.Reading.the-variants.{Data}
 use Rattle.build.specs.declared.creator.DataParts.{DataParts}
 use Rattle.build.proofs.BuildingRefusals.{Buildable, accepted}

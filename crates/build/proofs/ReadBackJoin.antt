@@ -2,30 +2,28 @@
 -- join-accept is read as one of its length; decrypted it is the clear bytes and their MIC, and the fields are those that were
 -- given, RxDelay modulo 16 and a list filled up with zeros to five. The clear bytes are written out, so each field computes.
 -- Assumes nothing.
-use mathlib.Core.Path.{_≡_, refl, sym, ap, ap₂, _∙_, subst}
+use mathlib.Core.Path.{_≡_, refl, sym, ap, ap₂, _∙_}
 use mathlib.Core.Bool.{Bool, true, false}
 use mathlib.Core.List.{List, [], _∷_, _++_, append-assoc}
-use mathlib.Core.Logic.{_⊎_, inl, inr, ⊎-elim}
+use mathlib.Core.Logic.{_⊎_, inl, inr}
 use Prim.Native.Nat.{ℕ, zero, suc, _+_, _-_, _*_, _/_, _%_, _≤_, _<_}
 use native.Mathlib.Omega.{arith}
-use lib.Dec.{ltb, eqb}
-use lib.ListN.{length, take, drop, length-append}
+use lib.Dec.{ltb}
+use lib.ListN.{length, take, length-append}
 use lib.Seq.{take-at, drop-at, take-all}
-use Rattle.base.specs.Bytes.{pick, at, tab, part, AreBytes}
+use Rattle.base.specs.Bytes.{pick, at, tab, AreBytes}
 use borrow.Author.Tests.{ltb-false}
-use Rattle.base.proofs.Each.{each}
-use Rattle.base.proofs.Parts.{bytes-append, bytes-nil}
+use Rattle.base.proofs.Parts.{bytes-append}
 use Rattle.base.proofs.Tab.{tab-at, tab-ext}
 use Rattle.frame.specs.Layout.{mtype, major, micOf}
 use Rattle.frame.specs.Reading.{readOf}
-use Rattle.frame.specs.Conditions.{IsJoinRequest, IsJoinAccept}
-use Rattle.joining.specs.Joining.{requestFields, acceptFields, cfListOf, frequenciesOf, masksOf, frequencyAt, zeros}
-use Rattle.build.specs.Building.{acceptHead, cfListBytes, frequencyBytes, tooHigh, joinAcceptBody, joinAcceptLength, joinAcceptRefusal, joinRequestBody}
+use Rattle.joining.specs.Joining.{requestFields, acceptFields, cfListOf, frequenciesOf, masksOf, zeros}
+use Rattle.build.specs.Building.{acceptHead, cfListBytes, tooHigh, joinAcceptBody, joinAcceptLength, joinAcceptRefusal, joinRequestBody}
 use Rattle.build.specs.Frames.{signed, joinRequest, joinAccept}
 use Rattle.payload.specs.JoinAccept.{acceptDecrypted}
 use Rattle.secure.specs.Security.{joinMic}
 use Rattle.joining.specs.declared.CfList.{CfList}
-use Rattle.joining.specs.declared.CfList.the-variants.{Absent, Frequencies, Masks}
+use Rattle.joining.specs.declared.CfList.the-variants.{Absent, Frequencies}
 use Rattle.joining.specs.declared.JoinAcceptFields.{JoinAcceptFields}
 use Rattle.joining.specs.declared.JoinRequestFields.{JoinRequestFields}
 use Rattle.frame.specs.declared.parser.Reading.the-variants.{JoinRequest, JoinAccept}

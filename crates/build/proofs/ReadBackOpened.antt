@@ -3,9 +3,9 @@
 -- parts, said of what the calls answer.
 -- Assumes nothing.
 use mathlib.Core.Path.{_≡_, sym, ap, ap₂, _∙_}
-use mathlib.Core.Bool.{Bool, true, false}
+use mathlib.Core.Bool.{Bool}
 use mathlib.Core.List.{List, _++_}
-use Prim.Native.Nat.{ℕ, _+_, _<_, _≤_}
+use Prim.Native.Nat.{ℕ, _+_, _<_}
 use native.Mathlib.Omega.{arith}
 use lib.Dec.{eqb}
 use lib.ListN.{length}
@@ -15,14 +15,13 @@ use Rattle.base.proofs.Cases.{by-bool, by-order}
 use Rattle.frame.specs.Layout.{fcnt, fport, fhdrLength, header, payload, payloadStart, payloadEnd, micOf}
 use Rattle.frame.specs.Conditions.{IsData}
 use Rattle.frame.specs.Reading.{portOf, payloadOf}
-use Rattle.frame.specs.declared.parser.FPort.{FPort}
 use Rattle.frame.specs.declared.parser.FPort.the-variants.{Absent, Port}
 use Rattle.frame.specs.declared.parser.FrmPayload.{FrmPayload}
 use Rattle.frame.specs.declared.parser.FrmPayload.the-variants.{Data as PlainData, MacCommands}
 use Rattle.numbers.specs.Numbers.{onAccept}
 use Rattle.frame.proofs.ReadingLaws.{data-read, request-read}
 use Rattle.frame.proofs.ReadingSteps.{port-there, port-absent, payload-commands, payload-data}
-use Rattle.payload.specs.Opening.{Result, result, unopened, joinPasses, joinRequestTest, dataTest, dataOpened, givenKey}
+use Rattle.payload.specs.Opening.{result, unopened, joinPasses, joinRequestTest, dataTest, dataOpened, givenKey}
 use Rattle.default_crypto.specs.Checked.{acceptTested, acceptOpenedChecked}
 use Rattle.payload.specs.JoinAccept.{acceptDecrypted}
 use Rattle.secure.specs.Sealing.{payloadKey}

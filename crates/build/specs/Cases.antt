@@ -1,8 +1,7 @@
 -- The refusals of data building past 7 and 13, by the kind of port and the two lengths: what two inner functions promise.
 -- That together they are the tests of `Building` in their order is a law.
 -- Assumes nothing.
-use mathlib.Core.Bool.{Bool, true, false}
-use mathlib.Core.List.{List, [], _∷_}
+use mathlib.Core.List.{[], _∷_}
 use Prim.Native.Nat.{ℕ, _+_}
 use lib.Dec.{ltb, eqb}
 use Rattle.base.specs.Bytes.{pick}

@@ -1,7 +1,7 @@
 // The control byte of a data frame, and what a message type and an address say by themselves (LoRaWAN 1.0, sections
 // 4.2.1, 4.3.1 and 6.1.1; parser.rs of crate lorawan 0.9.0).
 ghost use mathlib.Core.Path.{_≡_};
-ghost use Prim.Native.Nat.{ℕ, _/_, _%_, _<_};
+ghost use Prim.Native.Nat.{_/_, _%_, _<_};
 ghost use lib.Dec.{eqb};
 ghost use Rattle.base.specs.Bytes.{at};
 ghost use Rattle.control.specs.Control.{fctrlOf, adrOf, adrAckReqOf, ackOf, fPendingOf, fOptsLenOf, withBitOf, uplinkOf, confirmedOf, nwkIdOf};

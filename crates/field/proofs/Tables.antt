@@ -3,7 +3,6 @@
 -- quick to compute, and so is the test of a whole table against it.
 -- Assumes nothing.
 use mathlib.Core.Path.{_≡_, sym, ap, _∙_}
-use mathlib.Core.List.{List}
 use Prim.Native.Nat.{ℕ, _<_}
 use Rattle.base.specs.Bytes.{tab, at}
 use Rattle.base.proofs.Tab.{at-tab, tab-ext}

@@ -1,12 +1,12 @@
 -- The layout of a frame, from LoRaWAN 1.0 section 4 and document 01 "Reading": which bytes of it are what. Each is a
 -- plain function of the bytes; whether the frame is one that has the field is said by `Reading`.
 -- Assumes nothing.
-use mathlib.Core.Bool.{Bool, true, false}
-use mathlib.Core.List.{List, [], _∷_, _++_}
+use mathlib.Core.Bool.{Bool}
+use mathlib.Core.List.{List}
 use Prim.Native.Nat.{ℕ, _+_, _-_, _*_, _/_, _%_, min}
-use lib.Dec.{leb, ltb, eqb}
+use lib.Dec.{leb, ltb}
 use lib.ListN.{length, take, drop}
-use Rattle.base.specs.Bytes.{pick, at, part}
+use Rattle.base.specs.Bytes.{at, part}
 
 -- 4.2.1 MType: bits 5 to 7 of the first byte
 abbrev pub mtype : List ℕ → ℕ

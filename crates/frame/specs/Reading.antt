@@ -1,12 +1,11 @@
 -- What reading gives, from document 01 "Reading" and "Numbers a caller may see": the refusals in the order 12, 1, 2, 3, 4,
 -- and the fields of what is accepted.
 -- Assumes nothing.
-use mathlib.Core.Bool.{Bool, true, false}
-use mathlib.Core.List.{List, [], _∷_}
+use mathlib.Core.List.{List}
 use Prim.Native.Nat.{ℕ, _+_, _-_}
-use lib.Dec.{leb, ltb, eqb}
+use lib.Dec.{ltb, eqb}
 use lib.ListN.{length}
-use Rattle.base.specs.Bytes.{pick, at}
+use Rattle.base.specs.Bytes.{pick}
 use Rattle.frame.specs.Layout.{mtype, major, fctrl, fcnt, fhdrLength, fitsHeader, hasPort, fport, payloadStart, payloadEnd}
 use Rattle.frame.specs.declared.parser.FPort.{FPort}
 use Rattle.frame.specs.declared.parser.FPort.the-variants.{Absent, Port}

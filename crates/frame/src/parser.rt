@@ -1,6 +1,6 @@
 // Reading a frame (parser.rs of the crate, as far as reading goes).
 ghost use mathlib.Core.Path.{_≡_};
-ghost use Prim.Native.Nat.{ℕ, _+_, _*_, _%_, _≤_};
+ghost use Prim.Native.Nat.{_+_, _*_, _%_, _≤_};
 ghost use lib.ListN.{length};
 ghost use Rattle.frame.specs.Reading.{portOf, payloadOf, readJoinRequest, readJoinAccept, readData, readType, readOf};
 use crate::packet_length::FHDR_MIN_LEN;

@@ -1,7 +1,7 @@
 -- A building's promise, with its answer as a number; and the kinds of data frame, of which any other number is refused
 -- before anything is built.
 -- Assumes nothing.
-use mathlib.Core.Path.{_≡_, refl, sym, ap, _∙_}
+use mathlib.Core.Path.{_≡_, sym, ap, _∙_}
 use mathlib.Core.List.{List}
 use Prim.Native.Nat.{ℕ, _<_, _≤_}
 use lib.ListN.{length}

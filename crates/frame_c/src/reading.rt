@@ -2,7 +2,7 @@
 ghost use mathlib.Core.Path.{_≡_};
 ghost use Prim.Native.Nat.{_-_};
 ghost use lib.ListN.{length};
-ghost use Rattle.base.specs.Bytes.{pick, at};
+ghost use Rattle.base.specs.Bytes.{at};
 ghost use Rattle.frame_c.specs.Fields.{fieldsOf, FieldsInto, ReadInto};
 use crate::answers::answer;
 use crate::storing::or_short;

@@ -1,6 +1,6 @@
 // The fields of the join messages (LoRaWAN 1.0, sections 6.2.4 and 6.2.5; parser.rs of crate lorawan 0.9.0).
 ghost use mathlib.Core.Path.{_≡_};
-ghost use Prim.Native.Nat.{ℕ, _+_, _*_, _%_, _≤_};
+ghost use Prim.Native.Nat.{_+_, _*_, _%_, _≤_};
 ghost use lib.ListN.{length};
 ghost use Rattle.base.specs.Bytes.{tab, part};
 ghost use Rattle.joining.specs.Joining.{requestFields, noRequest, joinRequestFields, cfListOf, frequencyAt, frequenciesOf, masksOf, acceptFields, noAccept, joinAcceptFields};

@@ -1,7 +1,6 @@
 // What a reading answers, in numbers: its number and place where it is refused, the port and the payload of a data frame,
 // and all of it as one record.
 ghost use mathlib.Core.Path.{_≡_};
-ghost use Prim.Native.Nat.{ℕ};
 ghost use Rattle.numbers.specs.Numbers.{portGiven, portNumber, payloadKind, payloadFrom, payloadTo, numberOf, placeOf, otherNumber, plainValues, dataValues, valuesOf};
 use frame::parser::DataFrame;
 use frame::parser::FPort;

@@ -1,19 +1,19 @@
 -- Block by block: one more block, done where it lies; lengths; and that one function block by block undoes another which
 -- it undoes on each block. So decrypting a join-accept gives back what was encrypted.
 -- Assumes nothing.
-use mathlib.Core.Path.{_≡_, refl, sym, ap, ap₂, _∙_, subst}
+use mathlib.Core.Path.{_≡_, refl, sym, ap, ap₂, _∙_}
 use mathlib.Core.List.{List, [], _∷_, _++_}
 use Prim.Native.Nat.{ℕ, zero, suc, _+_, _-_, _*_, _/_, _≤_, _<_}
-use native.Mathlib.Nat.{add-suc, not-suc-le-zero}
+use native.Mathlib.Nat.{not-suc-le-zero}
 use native.Mathlib.Numerals.{add-one}
 use native.Mathlib.Omega.{arith}
-use lib.ListN.{length, take, drop, set, length-append, length-take, length-drop, take-append-drop}
-use lib.Seq.{sets, sets-eq, length-take-le, take-at, drop-at, drop-append-add, take-append-seam, drop-append-seam}
+use lib.ListN.{length, take, drop, set, length-append, length-drop, take-append-drop}
+use lib.Seq.{sets, sets-eq, length-take-le, take-at, drop-at, drop-append-add}
 use Rattle.base.specs.Bytes.{at, part, AreBytes}
-use Rattle.base.proofs.Parts.{bytes-take, bytes-drop, bytes-append}
+use Rattle.base.proofs.Parts.{bytes-take, bytes-drop}
 use Rattle.aes.specs.Fips197.{keyExpansion, cipher, invCipher}
-use Rattle.aes.proofs.Laws.{schedule-byte, cipher-long, invCipher-long, cipher-invCipher}
-use Rattle.payload.specs.JoinAccept.{eachBlock, fromOne, acceptEncrypted, acceptDecrypted}
+use Rattle.aes.proofs.Laws.{schedule-byte, invCipher-long, cipher-invCipher}
+use Rattle.payload.specs.JoinAccept.{eachBlock, acceptEncrypted, acceptDecrypted}
 
 -- ---- stores past a first string
 

@@ -1,7 +1,7 @@
 -- Opening a data frame with both keys given leaves its header, its payload decrypted under the key that the header selects,
 -- and its MIC: the same three parts that sealing puts together.
 -- Assumes nothing.
-use mathlib.Core.Path.{_≡_, refl, sym, ap, ap₂, _∙_}
+use mathlib.Core.Path.{_≡_, refl, sym, ap, _∙_}
 use mathlib.Core.Bool.{Bool, true, false}
 use mathlib.Core.List.{List, [], _∷_, _++_, append-assoc}
 use Prim.Native.Nat.{ℕ, _+_, _-_, _%_, _≤_, _<_}
@@ -13,17 +13,16 @@ use lib.Seq.{getD-take, take-take}
 use Rattle.base.specs.Bytes.{pick, at}
 use Rattle.base.proofs.Cases.{by-order}
 use Rattle.frame.specs.Conditions.{IsData}
-use Rattle.frame.specs.Layout.{fcnt, fport, fhdrLength, header, headerEnd, payload, payloadStart, payloadEnd, micOf}
+use Rattle.frame.specs.Layout.{fcnt, fport, fhdrLength, header, headerEnd, payload, payloadEnd, micOf}
 use Rattle.numbers.specs.Numbers.{portNumber, onData}
-use Rattle.frame.specs.Reading.{portOf, dataOf, readOf}
+use Rattle.frame.specs.Reading.{portOf, dataOf}
 use Rattle.frame.specs.declared.keys.MaybeKey.{MaybeKey}
 use Rattle.frame.specs.declared.parser.FPort.{FPort}
-use Rattle.frame.specs.declared.parser.FPort.the-variants.{Absent, Port}
-use Rattle.frame.specs.declared.parser.DataFrame.{DataFrame}
+use Rattle.frame.specs.declared.parser.FPort.the-variants.{Port}
 use Rattle.frame.proofs.LayoutLaws.{placed, length-payload}
 use Rattle.frame.proofs.ReadingLaws.{reads-data}
 use Rattle.frame.proofs.ReadingSteps.{port-there}
-use Rattle.payload.specs.Opening.{Result, result, unopened, selected, decrypted, openedUnder, dataOpened, givenKey}
+use Rattle.payload.specs.Opening.{result, unopened, selected, decrypted, openedUnder, dataOpened, givenKey}
 use Rattle.secure.specs.Sealing.{payloadKey}
 use Rattle.secure.specs.Security.{crypted, cryptedPart, fullCounter}
 use Rattle.payload.specs.declared.Opening.the-variants.{Opened}

@@ -8,11 +8,11 @@ use mathlib.Core.Logic.{⊎-elim}
 use Prim.Native.Nat.{ℕ, _+_, _-_, _*_, _/_, _≤_, _<_, min}
 use native.Mathlib.Omega.{arith}
 use lib.ListN.{length, take, drop, length-append, length-drop, take-append-drop, drop-of-length-le}
-use lib.Seq.{sets, sets-eq, take-all, take-at, length-take-le, getD-take}
+use lib.Seq.{sets, sets-eq, take-all}
 use denote.Enum.Declared.{tagOf}
 use Rattle.base.specs.Bytes.{pick, tab, at, part}
 use Rattle.base.proofs.Lent.{put-back}
-use Rattle.base.proofs.Tab.{tab-at, tab-ext}
+use Rattle.base.proofs.Tab.{tab-at}
 use Rattle.aes.specs.Fips197.{keyExpansion, cipher}
 use Rattle.aes.proofs.Laws.{cipher-long}
 use Rattle.payload.specs.JoinAccept.{eachBlock, fromOne, acceptDecrypted}

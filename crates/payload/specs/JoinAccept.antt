@@ -1,7 +1,7 @@
 -- A join-accept's encryption, from LoRaWAN 1.0 section 6.2.5: the network applies AES decryption to each block of sixteen
 -- bytes from byte 1, so that a device needs AES encryption alone.
 -- Assumes nothing.
-use mathlib.Core.List.{List, [], _∷_, _++_}
+use mathlib.Core.List.{List, _++_}
 use Prim.Native.Nat.{ℕ, zero, suc, _/_}
 use lib.ListN.{length, take, drop}
 use Rattle.aes.specs.Fips197.{keyExpansion, cipher, invCipher}

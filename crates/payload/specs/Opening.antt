@@ -4,9 +4,8 @@
 -- Assumes nothing.
 use mathlib.Core.Bool.{Bool, true, false}
 use mathlib.Core.List.{List, _∷_, _++_}
-use Prim.Native.Nat.{ℕ, _-_}
+use Prim.Native.Nat.{ℕ}
 use lib.Dec.{eqb}
-use lib.ListN.{length, take}
 use Rattle.base.specs.Bytes.{pick, tab, part}
 use Rattle.aes.specs.Fips197.{keyExpansion, cipher}
 use Rattle.cmac.specs.Compared.{sameBytes}

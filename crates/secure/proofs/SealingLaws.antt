@@ -2,16 +2,14 @@
 -- bytes that were there. Of a sealed frame: its length, and that its first bytes are its header's.
 -- Assumes nothing.
 use mathlib.Core.Path.{_≡_, refl, sym, ap, ap₂, _∙_}
-use mathlib.Core.Bool.{Bool, true, false}
-use mathlib.Core.List.{List, [], _∷_, _++_, append-assoc}
-use Prim.Native.Nat.{ℕ, _+_, _-_, _%_, _≤_, _<_}
+use mathlib.Core.List.{List, _++_, append-assoc}
+use Prim.Native.Nat.{ℕ, _+_, _-_, _%_, _≤_}
 use native.Mathlib.Omega.{arith}
-use lib.Dec.{eqb}
 use lib.ListN.{length, take, drop, length-append, length-drop}
-use lib.Seq.{sets, sets-eq, length-take-le, take-take, take-at, drop-at, drop-drop, take-append-le}
+use lib.Seq.{sets, sets-eq, length-take-le, take-take, take-at, drop-at, drop-drop}
 use borrow.Author.Tests.{eq-eqb, ne-eqb}
-use Rattle.base.specs.Bytes.{pick, at, part}
-use Rattle.base.proofs.Lent.{part-long, put-long, put-after}
+use Rattle.base.specs.Bytes.{at, part}
+use Rattle.base.proofs.Lent.{part-long}
 use Rattle.base.proofs.Tab.{at-past}
 use Rattle.frame.specs.Layout.{fhdrLength}
 use Rattle.secure.specs.Security.{crypted, cryptedPart, dataMic}

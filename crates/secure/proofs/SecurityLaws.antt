@@ -1,13 +1,13 @@
 -- Laws on the helper blocks, the key stream and encrypted payloads: lengths and bytes, that what encrypts also decrypts,
 -- what one changed byte does, and that only a frame's first five bytes count.
 -- Assumes nothing.
-use mathlib.Core.Path.{_≡_, refl, sym, ap, ap₂, _∙_, subst}
+use mathlib.Core.Path.{_≡_, refl, sym, ap, ap₂, _∙_}
 use mathlib.Core.List.{List, [], _∷_, _++_, append-nil}
-use Prim.Native.Nat.{ℕ, zero, suc, _+_, _-_, _*_, _/_, _%_, _<_, _≤_}
+use Prim.Native.Nat.{ℕ, _+_, _-_, _/_, _%_, _<_, _≤_}
 use native.Mathlib.Nat.{mod-lt}
 use native.Mathlib.Omega.{arith}
 use lib.ListN.{length, take, drop, set, length-append, length-take, length-drop}
-use Rattle.base.specs.Bytes.{tab, at, part, _⊕_, AreBytes}
+use Rattle.base.specs.Bytes.{at, part, _⊕_, AreBytes}
 use Rattle.base.specs.Mask.{masked}
 use Rattle.base.proofs.Each.{each}
 use Rattle.base.proofs.Mask.{masked-long, masked-at, masked-byte, masked-same, masked-twice, masked-set}
@@ -15,10 +15,9 @@ use Rattle.base.proofs.Lent.{part-long, same-start, put-back, put-before, put-p
 use Rattle.base.proofs.Parts.{bytes-append}
 use Rattle.aes.specs.Fips197.{keyExpansion, cipher}
 use Rattle.aes.proofs.Laws.{schedule-byte, cipher-byte}
-use Rattle.cmac.specs.Rfc4493.{mac, mic}
+use Rattle.cmac.specs.Rfc4493.{mac}
 use Rattle.cmac.specs.Running.{started, absorbed, absorbedAll, joined, finished}
 use Rattle.cmac.proofs.Laws.{mac-cutting, mic-long, mic-byte}
-use Rattle.frame.specs.Layout.{direction}
 use Rattle.secure.specs.Security.{startOf, helperBlock, blockNumber, streamAt, streamUnder, crypted, cryptedPart, fullCounter, message, dataMic, joinMic}
 
 -- ---- the helper block

@@ -1,7 +1,7 @@
 -- A view of a frame, from document 01 "Reading": the caller's bytes with the frame's numbers beside them, and its parts.
 -- Assumes nothing.
 use Prim.Native.Nat.{ℕ}
-use mathlib.Core.List.{List, []}
+use mathlib.Core.List.{List}
 use denote.Ref.{RefT, now}
 use Rattle.frame.specs.Reading.{readOf}
 use Rattle.numbers.specs.Numbers.{valuesOf}

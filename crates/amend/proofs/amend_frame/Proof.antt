@@ -67,14 +67,12 @@ pub amend-frame-spec : {M : Type 1} → statement M
 amend-frame-spec =
     tie.close
     (tie.spec
-    (λ c κs. search needs)
-    (λ c. search needs)
+    (λ c κs. search needs) (λ c. search needs)
     returns
     (λ c κs. search needs)
     array-share-prefix-held
     slice-aggregate-put
-    (λ c κs. search needs)
-    (λ c. search needs)
+    (λ c κs. search needs) (λ c. search needs)
     returns-2
     (λ c. search needs)
     returns-3)

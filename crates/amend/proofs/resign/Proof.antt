@@ -21,11 +21,6 @@ pub resign-spec : {M : Type 1} → statement M
 resign-spec =
     tie.close
     (tie.spec
-    (λ c. search needs)
-    (λ c κs. omega arith)
-    (λ c κs. omega arith)
-    (λ c. search needs)
-    (λ c κs. omega arith)
-    (λ c. search needs)
-    (λ c. search needs)
+    (λ c. search needs) (λ c κs. omega arith) (λ c κs. omega arith) (λ c. search needs) (λ c κs. omega arith)
+    (λ c. search needs) (λ c. search needs)
     returns)

@@ -1,7 +1,7 @@
 -- `open_accept_tested` tests the clear copy, whose first bytes are the decrypted frame, stores it where the MIC is right,
 -- and writes nothing where it is not.
 -- Assumes nothing.
-use mathlib.Core.Path.{_≡_, sym, ap, ap₂, _∙_}
+use mathlib.Core.Path.{sym, ap, ap₂, _∙_}
 use mathlib.Core.List.{List}
 use Prim.Native.Nat.{ℕ}
 use native.Mathlib.Omega.{arith}

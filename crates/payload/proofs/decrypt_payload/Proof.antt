@@ -1,8 +1,6 @@
 -- `decrypt_payload` decrypts from the end of the header to the MIC: the places and the counter are those of the reading.
 -- Assumes nothing.
-use mathlib.Core.Path.{_≡_, ap}
 use native.Mathlib.Omega.{arith}
-use Rattle.frame.specs.declared.parser.DataFrame.{DataFrame}
 use Rattle.payload.proofs.OpeningLaws.{fopts-place, mic-place, lent-payload}
 use borrow.Author.Needs.{needs}
 use Rattle.payload.proofs.decrypt_payload.Statement.{statement}

@@ -26,12 +26,7 @@ store-spec =
     Inv-loop
     μ-loop
     (λ c. (search needs, start _ _ _))
-    (λ c. omega arith)
-    (λ c. omega arith)
-    (λ c. omega arith)
-    (λ c. omega arith)
-    (λ c. omega arith)
+    (λ c. omega arith) (λ c. omega arith) (λ c. omega arith) (λ c. omega arith) (λ c. omega arith)
     loop-again
-    (λ c. omega arith)
-    (λ c. search needs)
+    (λ c. omega arith) (λ c. search needs)
     returns)

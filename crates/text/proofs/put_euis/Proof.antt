@@ -31,8 +31,7 @@ pub put-euis-spec : {M : Type 1} → statement M
 put-euis-spec =
     tie.close
     (tie.spec
-    (λ c κs. search needs)
-    (λ c. search needs)
+    (λ c κs. search needs) (λ c. search needs)
     put-hex-line-requires
     (λ c. search needs)
     put-hex-line-requires-2

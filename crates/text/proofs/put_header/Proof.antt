@@ -58,13 +58,11 @@ pub put-header-spec : {M : Type 1} → statement M
 put-header-spec =
     tie.close
     (tie.spec
-    (λ c κs. search needs)
-    (λ c. search needs)
+    (λ c κs. search needs) (λ c. search needs)
     put-hex-line-requires
     (λ c. search needs)
     put-hex-line-requires-2
-    (λ c. search needs)
-    (λ c κs. search needs)
+    (λ c. search needs) (λ c κs. search needs)
     put-number-line-requires
     (λ c. search needs)
     returns)

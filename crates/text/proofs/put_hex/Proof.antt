@@ -51,8 +51,7 @@ put-hex-spec =
     loop-holds
     (λ c. omega arith)
     put-hex-byte-requires
-    (λ c. omega arith)
-    (λ c. omega arith)
+    (λ c. omega arith) (λ c. omega arith)
     loop-again
     same-length
     returns)

@@ -39,10 +39,7 @@ pub put-hex-line-spec : {M : Type 1} → statement M
 put-hex-line-spec =
     tie.close
     (tie.spec
-    (λ c κs. search needs)
-    (λ c. search needs)
-    (λ c. search needs)
-    (λ c. search needs)
+    (λ c κs. search needs) (λ c. search needs) (λ c. search needs) (λ c. search needs)
     put-hex-requires
     put-newline-requires
     (λ c. search needs)

@@ -19,8 +19,7 @@ pub put-join-accept-spec : {M : Type 1} → statement M
 put-join-accept-spec =
     tie.close
     (tie.spec
-    (λ c κs. search needs)
-    (λ c. search needs)
+    (λ c κs. search needs) (λ c. search needs)
     put-number-line-requires
     (λ c. search needs)
     returns)

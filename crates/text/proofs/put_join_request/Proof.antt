@@ -40,8 +40,7 @@ pub put-join-request-spec : {M : Type 1} → statement M
 put-join-request-spec =
     tie.close
     (tie.spec
-    (λ c κs. search needs)
-    (λ c. search needs)
+    (λ c κs. search needs) (λ c. search needs)
     put-hex-line-requires
     (λ c. search needs)
     put-hex-line-requires-2

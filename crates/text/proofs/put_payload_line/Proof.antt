@@ -36,10 +36,7 @@ pub put-payload-line-spec : {M : Type 1} → statement M
 put-payload-line-spec =
     tie.close
     (tie.spec
-    (λ c. search needs)
-    (λ c. search needs)
-    (λ c κs. search needs)
-    (λ c. search needs)
+    (λ c. search needs) (λ c. search needs) (λ c κs. search needs) (λ c. search needs)
     put-place-line-requires
     (λ c. search needs)
     put-place-line-requires-2

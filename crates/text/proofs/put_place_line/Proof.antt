@@ -24,10 +24,7 @@ pub put-place-line-spec : {M : Type 1} → statement M
 put-place-line-spec =
     tie.close
     (tie.spec
-    (λ c. search needs)
-    (λ c κs. search needs)
-    (λ c. search needs)
-    (λ c. search needs)
+    (λ c. search needs) (λ c κs. search needs) (λ c. search needs) (λ c. search needs)
     put-number-line-requires
     (λ c. search needs)
     returns)

@@ -32,8 +32,7 @@ pub amend-spec : {M : Type 1} → statement M
 amend-spec =
     tie.close
     (tie.spec
-    (λ c. search needs)
-    (λ c κs. search needs)
+    (λ c. search needs) (λ c κs. search needs)
     amended-requires
     returns
     returns-2)

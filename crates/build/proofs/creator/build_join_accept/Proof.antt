@@ -1,7 +1,7 @@
 -- `build_join_accept` meets its contract: the clear bytes and their MIC are stored, and the blocks from byte 1 deciphered
 -- where they lie.
 -- Assumes nothing.
-use mathlib.Core.Path.{_≡_, refl, sym, _∙_}
+use mathlib.Core.Path.{refl, sym, _∙_}
 use Prim.Native.Nat.{_+_, _≤_}
 use native.Mathlib.Omega.{arith}
 use lib.ListN.{length}

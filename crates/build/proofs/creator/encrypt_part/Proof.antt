@@ -1,7 +1,7 @@
 -- `encrypt_part` lends the part to `encrypt_frm_data_payload`; what stands before and after it stays.
 -- Assumes nothing.
 use Prim.Native.Nat.{ℕ, _-_}
-use mathlib.Core.Path.{_≡_, ap, _∙_}
+use mathlib.Core.Path.{ap, _∙_}
 use mathlib.Core.List.{List, _++_}
 use lib.ListN.{take, drop}
 use borrow.Author.Needs.{needs}
@@ -31,10 +31,6 @@ pub encrypt-part-spec : {M : Type 1} → statement M
 encrypt-part-spec =
     tie.close
     (tie.spec
-    (λ c κs. search needs)
-    (λ c. search needs)
-    (λ c. search needs)
-    (λ c. search needs)
-    (λ c κs. search needs)
+    (λ c κs. search needs) (λ c. search needs) (λ c. search needs) (λ c. search needs) (λ c κs. search needs)
     (λ c. search needs)
     returns)

@@ -1,9 +1,7 @@
 -- `fixed_header` meets its contract: the array written out is the header's eight bytes.
 -- Assumes nothing.
-use mathlib.Core.Path.{_≡_, sym, ap, _∙_}
-use mathlib.Core.List.{List, [], _∷_}
-use Prim.Native.Nat.{ℕ}
-use Rattle.build.proofs.Header.{eight, fixed-eight}
+use mathlib.Core.Path.{sym}
+use Rattle.build.proofs.Header.{fixed-eight}
 use borrow.Author.Needs.{needs}
 use Rattle.build.proofs.creator.fixed_header.Statement.{statement}
 use Rattle.build.proofs.creator.fixed_header.Tie as tie

@@ -1,9 +1,8 @@
 -- `join_accept_refusal` meets its contract: each way out is that of its tests.
 -- Assumes nothing.
-use mathlib.Core.Path.{_≡_, sym, _∙_}
-use mathlib.Core.Bool.{true, false}
+use mathlib.Core.Path.{sym, _∙_}
 use borrow.Author.Tests.{lt-ltb, le-ltb}
-use Rattle.build.specs.Building.{tooHigh, joinAcceptRefusal}
+use Rattle.build.specs.Building.{joinAcceptRefusal}
 use borrow.Author.Needs.{needs}
 use Rattle.build.proofs.creator.join_accept_refusal.Statement.{statement}
 use Rattle.build.proofs.creator.join_accept_refusal.Tie as tie

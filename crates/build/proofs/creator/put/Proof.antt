@@ -1,6 +1,6 @@
 -- `put` meets its contract: after i turns the first i bytes of src stand in out from place at on.
 -- Assumes nothing.
-use Prim.Native.Nat.{_≤_, _-_, _+_}
+use Prim.Native.Nat.{_-_}
 use native.Mathlib.Omega.{arith}
 use borrow.Author.Needs.{needs}
 use lib.ListN.{length}

@@ -1,6 +1,5 @@
 -- `with_port` meets its contract: each way out is that of its tests.
 -- Assumes nothing.
-use native.Mathlib.Omega.{arith}
 use borrow.Author.Tests.{lt-ltb, le-ltb, eq-eqb, ne-eqb}
 use borrow.Author.Needs.{needs}
 use Rattle.build.proofs.creator.with_port.Statement.{statement}

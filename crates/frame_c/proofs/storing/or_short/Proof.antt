@@ -1,6 +1,5 @@
 -- `or_short` makes the tests of the definition.
 -- Assumes nothing.
-use borrow.Author.Needs.{needs}
 use borrow.Author.Tests.{lt-ltb, le-ltb, eq-eqb, ne-eqb}
 use Rattle.frame_c.specs.Answers.{orShort}
 use Rattle.frame_c.proofs.storing.or_short.Statement.{statement}

@@ -26,7 +26,7 @@ use sound.WpLaws.{FmC, fmOf, WpFn-mono}
 use denote.RattleType.{RattleType, owns}
 use denote.Laws.{Is, shows}
 use denote.Builtin.{u8}
-use denote.Ref.{RefT, NamedLft, now}
+use denote.Ref.{RefT, NamedLft}
 use denote.Signature.{namedLft}
 use denote.Slice.{sliceVal, ShrSlice, shr-slice-lawful}
 use denote.Steps.{owned, peeks, heard, nothing}
