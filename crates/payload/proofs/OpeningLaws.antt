@@ -3,29 +3,33 @@
 -- Assumes nothing.
 use mathlib.Core.Path.{_≡_, sym, ap, ap₂, _∙_}
 use mathlib.Core.Bool.{Bool, true, false}
-use mathlib.Core.List.{List, [], _++_, append-nil}
+use mathlib.Core.List.{List, [], _∷_, _++_, append-nil}
 use mathlib.Core.Logic.{⊎-elim}
 use Prim.Native.Nat.{ℕ, _+_, _-_, _*_, _/_, _≤_, _<_, min}
 use native.Mathlib.Omega.{arith}
 use lib.ListN.{length, take, drop, length-append, length-drop, take-append-drop, drop-of-length-le}
 use lib.Seq.{sets, sets-eq, take-all}
+use types.Run.{OneOf}
 use denote.Enum.Declared.{tagOf}
 use Rattle.base.specs.Bytes.{pick, tab, at, part}
 use Rattle.base.proofs.Lent.{put-back}
 use Rattle.base.proofs.Tab.{tab-at}
 use Rattle.aes.specs.Fips197.{keyExpansion, cipher}
 use Rattle.aes.proofs.Laws.{cipher-long}
+use Rattle.cmac.specs.Compared.{sameBytes}
 use Rattle.payload.specs.JoinAccept.{eachBlock, fromOne, acceptDecrypted}
 use Rattle.frame.specs.Layout.{fcnt, fhdrLength, headerEnd, payloadEnd, micOf}
-use Rattle.numbers.specs.Numbers.{onRequest, onAccept, onData}
-use Rattle.payload.specs.Opening.{decrypted, keyBlock}
+use Rattle.numbers.specs.Numbers.{otherNumber, placeOf, onRequest, onAccept, onData}
+use Rattle.payload.specs.Opening.{decrypted, keyBlock, sessionKey}
+use Rattle.payload.specs.declared.SessionKeys.{SessionKeys}
 use Rattle.frame.specs.Reading.{readOf, dataOf}
 use Rattle.frame.specs.declared.parser.DataFrame.{DataFrame}
 use Rattle.frame.specs.declared.parser.Reading.{Reading}
-use Rattle.secure.specs.Security.{startOf, crypted, cryptedPart, fullCounter}
+use Rattle.frame.specs.declared.parser.Reading.the-variants.{JoinRequest, JoinAccept, Data}
+use Rattle.secure.specs.Security.{startOf, crypted, cryptedPart, fullCounter, covered}
 use Rattle.secure.proofs.SecurityLaws.{lent-part}
 use Rattle.payload.proofs.Blocks.{Blocking, step, blocks-long}
-use Rattle.numbers.proofs.Others.{is-request, is-accept, is-data}
+use Rattle.numbers.proofs.Others.{not-request, not-accept, not-data}
 use Rattle.frame.proofs.ReadingLaws.{request-read, accept-read, data-read}
 use Rattle.frame.proofs.parser.Reading as R
 
@@ -38,37 +42,56 @@ module _ {A : Type 0} (b : Bool) (x y : A) where
   pub pick-false : b ≡ false → pick b x y ≡ y
   pick-false t = ap (λ (c : Bool). pick c x y) t
 
--- ---- the reading that a call needs: its answer, and what it says of the frame
+-- ---- the reading that a call needs: what it answers at another, what at this, and what this says of the frame
 
-module _ {A : Type 0} (x : A) (e : ℕ → ℕ → A) (r : Reading) where
-  pub on-request : tagOf R.the-type r ≡ 0 → onRequest x e r ≡ x
-  on-request t = ap (onRequest x e) (is-request r t)
+module _ {A : Type 0} (e : ℕ → ℕ → A) (f : List ℕ) (r : Reading) (q : r ≡ readOf f) where
+  pub no-request : (x : A) → OneOf (1 ∷ 2 ∷ 3 ∷ []) (tagOf R.the-type r)
+      → e (otherNumber r) (placeOf r) ≡ onRequest x e (readOf f)
+  no-request x h = sym (not-request e x r h) ∙ ap (onRequest x e) q
 
-  pub on-accept : tagOf R.the-type r ≡ 1 → onAccept (λ n. x) e r ≡ x
-  on-accept t = is-accept r t (λ n q. ap (onAccept (λ m. x) e) q)
+  pub a-request : (x : A) → r ≡ JoinRequest → x ≡ onRequest x e (readOf f)
+  a-request x p = ap (onRequest x e) (sym p ∙ q)
 
-  pub on-data : tagOf R.the-type r ≡ 2 → onData (λ d. x) e r ≡ x
-  on-data t = is-data r t (λ d q. ap (onData (λ b. x) e) q)
+  pub no-accept : (x : ℕ → A) → OneOf (0 ∷ 2 ∷ 3 ∷ []) (tagOf R.the-type r)
+      → e (otherNumber r) (placeOf r) ≡ onAccept x e (readOf f)
+  no-accept x h = sym (not-accept e x r h) ∙ ap (onAccept x e) q
 
-module _ (f : List ℕ) (r : Reading) (q : r ≡ readOf f) where
-  pub request-length : tagOf R.the-type r ≡ 0 → length f ≡ 23
-  request-length t = request-read f (sym q ∙ is-request r t) .long
+  pub a-accept : (x : ℕ → A) {n : ℕ} → r ≡ JoinAccept n → x n ≡ onAccept x e (readOf f)
+  a-accept x p = ap (onAccept x e) (sym p ∙ q)
 
-  pub accept-length : tagOf R.the-type r ≡ 1 → (17 ≤ length f) × (length f ≤ 33)
-  accept-length t =
-      is-accept r t
-      (λ n e.
-      let h = accept-read f (sym q ∙ e) in
-      ⊎-elim (λ k. (omega (arith, h .long), omega (arith, h .long))) (λ k. (omega (arith, h .long), omega (arith, h .long)))
-      (h .either))
+  pub no-data : (x : DataFrame → A) → OneOf (0 ∷ 1 ∷ 3 ∷ []) (tagOf R.the-type r)
+      → e (otherNumber r) (placeOf r) ≡ onData x e (readOf f)
+  no-data x h = sym (not-data e x r h) ∙ ap (onData x e) q
 
-  pub data-length : tagOf R.the-type r ≡ 2 → 12 ≤ length f
-  data-length t = is-data r t (λ d e. data-read f (sym q ∙ e) .least)
+  pub a-data : (x : DataFrame → A) {d : DataFrame} → r ≡ Data d → x d ≡ onData x e (readOf f)
+  a-data x p = ap (onData x e) (sym p ∙ q)
+
+module _ (f : List ℕ) where
+  pub request-length : readOf f ≡ JoinRequest → length f ≡ 23
+  request-length q = request-read f q .long
+
+  pub accept-length : {n : ℕ} → readOf f ≡ JoinAccept n → 17 ≤ length f
+  accept-length q =
+      let h = accept-read f q in
+      ⊎-elim (λ k. omega (arith, h .long)) (λ k. omega (arith, h .long)) (h .either)
+
+  pub data-length : {d : DataFrame} → readOf f ≡ Data d → 12 ≤ length f
+  data-length q = data-read f q .least
 
 -- ---- the MIC
 
-pub mic-part : (f : List ℕ) → 4 ≤ length f → part (length f - 4) 4 f ≡ micOf f
-mic-part f h = take-all 4 (drop (length f - 4) f) (omega (arith, length-drop (length f - 4) f))
+-- the four bytes that are compared are the frame's MIC
+pub found-right : (f right : List ℕ) → 4 ≤ length f → (found : List ℕ) → found ≡ part (length f - 4) 4 f
+    → sameBytes (micOf f) right ≡ sameBytes found right
+found-right f right h found e =
+    ap (λ (l : List ℕ). sameBytes l right)
+    (sym (e ∙ take-all 4 (drop (length f - 4) f) (omega (arith, length-drop (length f - 4) f))))
+
+-- the part that is lent for the MIC is what it covers
+pub lent-covered : (f : List ℕ) → part 0 (length f - 4 - 0) f ≡ covered f
+lent-covered f =
+    let z : length f - 4 - 0 ≡ length f - 4 = omega arith in
+    ap (λ (n : ℕ). take n f) z
 
 -- ---- the payload, by the places and the counter of a reading
 
@@ -150,3 +173,13 @@ pub keyBlock-bytes : (first : ℕ) (a b d : List ℕ) → length a ≡ 3 → len
 keyBlock-bytes first a b d ha hb hd =
     ap₂ (λ (x y : List ℕ). keyBlock first x y d) (tab-at a 3 ha) (tab-at b 3 hb)
     ∙ ap (keyBlock first (tab 3 (at a)) (tab 3 (at b))) (tab-at d 2 hd)
+
+-- one of them, from what the calls on the way gave
+pub session-key : (first : ℕ) (key nonce f : List ℕ) {a i w block k : List ℕ} → a ≡ part 1 3 f → i ≡ part 4 3 f
+    → w ≡ keyExpansion key → block ≡ keyBlock first a i nonce → k ≡ cipher w block → k ≡ sessionKey first key nonce f
+unfolding sessionKey
+session-key first key nonce f ha hi hw hb hk =
+    hk ∙ ap₂ (λ (v b : List ℕ). cipher v b) hw (hb ∙ ap₂ (λ (x y : List ℕ). keyBlock first x y nonce) ha hi)
+
+abbrev pub keysOf : List ℕ → List ℕ → SessionKeys
+keysOf nwk app = record { number = 0; place = 0; «nwk_skey» = nwk; «app_skey» = app }

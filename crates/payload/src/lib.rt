@@ -6,6 +6,9 @@ ghost use Rattle.base.specs.Bytes.{part};
 ghost use Rattle.aes.specs.Fips197.{cipher};
 ghost use Rattle.frame.specs.Conditions.{IsData};
 ghost use Rattle.payload.specs.JoinAccept.{eachBlock, acceptDecrypted};
+ghost use Rattle.cmac.specs.Compared.{sameBytes};
+ghost use Rattle.frame.specs.Layout.{micOf};
+ghost use Rattle.numbers.specs.Numbers.{otherNumber, placeOf};
 ghost use Rattle.frame.specs.Reading.{dataOf};
 ghost use Rattle.payload.specs.Opening.{joinPasses, dataPasses, answered, joinRequestTest, joinAcceptTest, dataTest, result, selected, decrypted, openedUnder, dataOpened, acceptOpened, keyBlock, derivedKeys, noKeys, sessionKeys};
 use frame::keys::MaybeKey;
@@ -66,34 +69,48 @@ fn four_at(frame: &[u8], from: usize) -> [u8; 4]
     ]
 }
 
-// Whether the last four bytes are the MIC of those ahead of them: of a join message, and of a data message.
-fn join_passes(frame: &[u8], key: [u8; 16]) -> bool
+// Whether the last four bytes are the MIC that is right.
+fn answer(frame: &[u8], right: [u8; 4]) -> MicTest
     requires { ⌜ 4 ≤ length (now frame) ⌝ }
-    ensures { λ r. ⌜ r ≡ joinPasses key (now (frame .entry)) ⌝ }
+    ensures { λ r. ⌜ r ≡ answered (sameBytes (micOf (now (frame .entry))) right) ⌝ }
 {
-    let end = frame.len() - MIC_LEN;
-    let found = four_at(frame, end);
-    let right = calculate_mic(key, &frame[0..end]);
-    cmac::same_mic(found, right)
-}
-
-fn data_passes(frame: &[u8], key: [u8; 16], counter: u32) -> bool
-    requires { ⌜ 4 ≤ length (now frame) ⌝ }
-    ensures { λ r. ⌜ r ≡ dataPasses key counter (now (frame .entry)) ⌝ }
-{
-    let end = frame.len() - MIC_LEN;
-    let found = four_at(frame, end);
-    let right = calculate_data_mic(key, &frame[0..end], counter);
-    cmac::same_mic(found, right)
-}
-
-fn answer(passes: bool) -> MicTest
-    ensures { λ r. ⌜ r ≡ answered passes ⌝ }
-{
-    if passes {
+    let found = four_at(frame, frame.len() - MIC_LEN);
+    if cmac::same_mic(found, right) {
         return MicTest::Passes;
     }
     MicTest::Fails
+}
+
+// The MIC of the bytes ahead of it: of a join message, and of a data message.
+fn join_test(frame: &[u8], key: [u8; 16]) -> MicTest
+    requires { ⌜ 4 ≤ length (now frame) ⌝ }
+    ensures { λ r. ⌜ r ≡ answered (joinPasses key (now (frame .entry))) ⌝ }
+{
+    let end = frame.len() - MIC_LEN;
+    let right = calculate_mic(key, &frame[0..end]);
+    answer(frame, right)
+}
+
+fn data_test(frame: &[u8], key: [u8; 16], counter: u32) -> MicTest
+    requires { ⌜ 4 ≤ length (now frame) ⌝ }
+    ensures { λ r. ⌜ r ≡ answered (dataPasses key counter (now (frame .entry))) ⌝ }
+{
+    let end = frame.len() - MIC_LEN;
+    let right = calculate_data_mic(key, &frame[0..end], counter);
+    answer(frame, right)
+}
+
+// What a call answers at a reading of another type than it needs: a test, and an opening.
+fn no_test(reading: Reading) -> MicTest
+    ensures { λ r. ⌜ r ≡ MicTest.Refused (otherNumber reading) (placeOf reading) ⌝ }
+{
+    MicTest::Refused(other_number(reading), place_of(reading))
+}
+
+fn no_opening(reading: Reading) -> Opening
+    ensures { λ r. ⌜ r ≡ Opening.Refused (otherNumber reading) (placeOf reading) ⌝ }
+{
+    Opening::Refused(other_number(reading), place_of(reading))
 }
 
 // 6.2.4: the MIC of a join-request.
@@ -102,9 +119,9 @@ pub fn join_request_mic(frame: &[u8], app_key: [u8; 16]) -> MicTest
 {
     let reading = read(frame);
     let Reading::JoinRequest = reading else {
-        return MicTest::Refused(other_number(reading), place_of(reading));
+        return no_test(reading);
     };
-    answer(join_passes(frame, app_key))
+    join_test(frame, app_key)
 }
 
 // 6.2.5: the MIC of a join-accept that was decrypted.
@@ -113,9 +130,9 @@ pub fn join_accept_mic(frame: &[u8], app_key: [u8; 16]) -> MicTest
 {
     let reading = read(frame);
     let Reading::JoinAccept(_) = reading else {
-        return MicTest::Refused(other_number(reading), place_of(reading));
+        return no_test(reading);
     };
-    answer(join_passes(frame, app_key))
+    join_test(frame, app_key)
 }
 
 // 4.4: the MIC of a data frame. `counter` is the whole 32-bit counter.
@@ -124,9 +141,9 @@ pub fn data_mic(frame: &[u8], nwk_skey: [u8; 16], counter: u32) -> MicTest
 {
     let reading = read(frame);
     let Reading::Data(_) = reading else {
-        return MicTest::Refused(other_number(reading), place_of(reading));
+        return no_test(reading);
     };
-    answer(data_passes(frame, nwk_skey, counter))
+    data_test(frame, nwk_skey, counter)
 }
 
 // The key that the reported port selects (4.3.3).
@@ -185,7 +202,7 @@ pub fn decrypt_data(
 {
     let reading = read(frame);
     let Reading::Data(fields) = reading else {
-        return Opening::Refused(other_number(reading), place_of(reading));
+        return no_opening(reading);
     };
     let port = fields.port;
     let key = select(port, nwk_skey, app_skey);
@@ -257,7 +274,7 @@ pub fn decrypt_join_accept(frame: &mut [u8], app_key: [u8; 16]) -> Opening
 {
     let reading = read(frame);
     let Reading::JoinAccept(_) = reading else {
-        return Opening::Refused(other_number(reading), place_of(reading));
+        return no_opening(reading);
     };
     decrypt_accept(frame, app_key);
     Opening::Opened
@@ -306,12 +323,12 @@ fn derive_keys(frame: &[u8], dev_nonce: [u8; 2], app_key: [u8; 16]) -> SessionKe
     }
 }
 
-fn no_keys(number: u8, place: usize) -> SessionKeys
-    ensures { λ r. ⌜ r ≡ noKeys number place ⌝ }
+fn no_keys(reading: Reading) -> SessionKeys
+    ensures { λ r. ⌜ r ≡ noKeys (otherNumber reading) (placeOf reading) ⌝ }
 {
     SessionKeys {
-        number: number,
-        place: place,
+        number: other_number(reading),
+        place: place_of(reading),
         nwk_skey: [0u8; 16],
         app_skey: [0u8; 16],
     }
@@ -323,7 +340,7 @@ pub fn session_keys(frame: &[u8], dev_nonce: [u8; 2], app_key: [u8; 16]) -> Sess
 {
     let reading = read(frame);
     let Reading::JoinAccept(_) = reading else {
-        return no_keys(other_number(reading), place_of(reading));
+        return no_keys(reading);
     };
     derive_keys(frame, dev_nonce, app_key)
 }

@@ -4,7 +4,7 @@
 use mathlib.Core.Path.{_≡_, refl, sym, ap, ap₂, _∙_}
 use mathlib.Core.List.{List, [], _∷_, _++_, append-nil}
 use Prim.Native.Nat.{ℕ, _+_, _-_, _/_, _%_, _<_, _≤_}
-use native.Mathlib.Nat.{mod-lt}
+use native.Mathlib.Nat.{mod-lt, not-suc-le-zero, le-of-eq}
 use native.Mathlib.Omega.{arith}
 use lib.ListN.{length, take, drop, set, length-append, length-take, length-drop}
 use Rattle.base.specs.Bytes.{at, part, _⊕_, AreBytes}
@@ -118,6 +118,12 @@ module _ (key f : List ℕ) (counter : ℕ) where
       → crypted key f counter (set p j v) ≡ set (crypted key f counter p) j (v ⊕ streamAt key f counter j)
   unfolding crypted
   crypted-set p j v h = masked-set p (streamAt key f counter) j v h
+
+  -- a payload of no byte is left as it is
+  pub crypted-none : (p : List ℕ) → length p ≡ 0 → p ≡ crypted key f counter p
+  unfolding crypted masked
+  crypted-none [] h = refl
+  crypted-none (a ∷ p) h = absurd (not-suc-le-zero (le-of-eq h))
 
 -- encrypting a part leaves the frame's length
 pub cryptedPart-long : (key f : List ℕ) (counter start end : ℕ) → start ≤ end → end ≤ length f

@@ -105,6 +105,9 @@ fn xor_stream(schedule: &[u8; 176], block: [u8; 16], payload: &mut [u8])
 pub fn encrypt_frm_data_payload(key: [u8; 16], start: [u8; 5], counter: u32, payload: &mut [u8])
     ensures { λ _. ⌜ now (payload .exit) ≡ crypted key start counter (now (payload .entry)) ⌝ }
 {
+    if payload.len() == 0 {
+        return;
+    }
     let schedule = aes::expand(key);
     let block = helper_block(1, start, counter, 0);
     xor_stream(&schedule, block, payload);

@@ -1,11 +1,10 @@
 -- `decrypt_join_accept_checked` tests and decrypts where the reading is a join-accept, and refuses by the reading where
 -- it is not.
 -- Assumes nothing.
-use mathlib.Core.Path.{sym, ap, ap₂, _∙_}
+use mathlib.Core.Path.{sym, ap₂, _∙_}
 use Prim.Native.Nat.{ℕ}
-use Rattle.numbers.specs.Numbers.{onAccept}
-use Rattle.numbers.proofs.Others.{not-accept}
 use Rattle.payload.specs.Opening.{unopened}
+use Rattle.payload.proofs.OpeningLaws.{no-accept, a-accept}
 use Rattle.default_crypto.specs.Checked.{acceptTested, acceptOpenedChecked}
 use Rattle.default_crypto.proofs.CheckedLaws.{accept-read-long}
 use borrow.Author.Needs.{needs}
@@ -17,11 +16,10 @@ unfolding acceptOpenedChecked
 returns c =
     let r = c .before .before .before in
     let a = r .before .before .before .args in
-    ap₂ (λ (n p : ℕ). unopened (a .frame .now) n p) (c .before .other-number .ensures) (c .place-of .ensures)
-    ∙ sym
-    (not-accept (unopened (a .frame .now)) (λ n. acceptTested (a .app-key) (a .frame .now)) (r .read .result)
-    (c .before .before .match .keys2))
-    ∙ ap (onAccept (λ n. acceptTested (a .app-key) (a .frame .now)) (unopened (a .frame .now))) (r .read .ensures)
+    let f = a .frame .now in
+    ap₂ (λ (n p : ℕ). unopened f n p) (c .before .other-number .ensures) (c .place-of .ensures)
+    ∙ no-accept (unopened f) f (r .read .result) (r .read .ensures) (λ n. acceptTested (a .app-key) f)
+    (c .before .before .match .keys2)
 
 open-accept-tested-requires : tie.Need-open-accept-tested-requires
 open-accept-tested-requires c κs =
@@ -34,10 +32,9 @@ returns-2 c =
     let e = c .before .before .before .before in
     let r = e .before .before in
     let a = r .before .before .before .args in
+    let f = a .frame .now in
     c .before .before .open-accept-tested .ensures
-    ∙ sym
-    (ap (onAccept (λ n. acceptTested (a .app-key) (a .frame .now)) (unopened (a .frame .now)))
-    (sym (r .read .ensures) ∙ e .enum-told .given .1))
+    ∙ a-accept (unopened f) f (r .read .result) (r .read .ensures) (λ n. acceptTested (a .app-key) f) (e .enum-told .given .1)
 
 pub decrypt-join-accept-checked-spec : {M : Type 1} → statement M
 decrypt-join-accept-checked-spec =

@@ -1,11 +1,11 @@
--- `data_mic` tests what `data_passes` does where the reading is of the type, and refuses by the reading where it is not.
+-- `data_mic` tests the MIC where the reading is of the type that it needs, and refuses by the
+-- reading where it is not.
 -- Assumes nothing.
+use mathlib.Core.Path.{sym, _∙_}
 use native.Mathlib.Omega.{arith}
-use denote.Ref.{now}
 use Rattle.payload.specs.Opening.{dataPasses, answered, dataTest}
 use Rattle.payload.specs.declared.MicTest.the-variants.{Refused}
-use Rattle.numbers.proofs.Others.{not-data}
-use Rattle.payload.proofs.OpeningLaws.{on-data, data-length}
+use Rattle.payload.proofs.OpeningLaws.{no-data, a-data, data-length}
 use borrow.Author.Needs.{needs}
 use Rattle.payload.proofs.data_mic.Statement.{statement}
 use Rattle.payload.proofs.data_mic.Tie as tie
@@ -13,21 +13,27 @@ use Rattle.payload.proofs.data_mic.Tie as tie
 returns : tie.Need-returns
 unfolding dataTest
 returns c =
-    let a = c .before .before .before .before .before .args in
-    cc (not-data Refused (λ d. answered (dataPasses (a .nwk-skey) (a .counter) (now (a .frame)))) (c .before .before .before .read .result) (c .before .before .match .keys2))
+    let r = c .before .before in
+    let a = r .before .before .args in
+    c .no-test .ensures
+    ∙ no-data Refused (a .frame .now) (r .read .result) (r .read .ensures)
+    (λ d. answered (dataPasses (a .nwk-skey) (a .counter) (a .frame .now))) (c .before .match .keys2)
 
-data-passes-requires : tie.Need-data-passes-requires
-data-passes-requires c κs =
-    let a = c .before .before .before .before .args in
-    omega (arith, data-length (now (a .frame)) (c .before .before .read .result) (c .before .before .read .ensures) (c .before .match .keys1))
+data-test-requires : tie.Need-data-test-requires
+data-test-requires c κs =
+    let r = c .before .before in
+    omega (arith, data-length (r .before .before .args .frame .now) (sym (r .read .ensures) ∙ c .enum-told .given .1))
 
 returns-2 : tie.Need-returns-2
 unfolding dataTest
 returns-2 c =
-    let a = c .before .before .before .before .before .before .args in
-    cc (on-data (answered (dataPasses (a .nwk-skey) (a .counter) (now (a .frame)))) Refused (c .before .before .before .before .read .result) (c .before .before .before .match .keys1))
+    let r = c .before .before .before in
+    let a = r .before .before .args in
+    c .data-test .ensures
+    ∙ a-data Refused (a .frame .now) (r .read .result) (r .read .ensures)
+    (λ d. answered (dataPasses (a .nwk-skey) (a .counter) (a .frame .now))) (c .before .enum-told .given .1)
 
 pub data-mic-spec : {M : Type 1} → statement M
 data-mic-spec =
     tie.close
-    (tie.spec (λ c κs. search needs) (λ c. search needs) (λ c κs. search needs) (λ c κs. search needs) returns data-passes-requires (λ c κs. search needs) returns-2)
+    (tie.spec (λ c κs. search needs) (λ c. search needs) (λ c κs. search needs) returns data-test-requires returns-2)

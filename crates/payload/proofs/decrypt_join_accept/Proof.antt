@@ -1,13 +1,12 @@
 -- `decrypt_join_accept` decrypts where the reading is a join-accept, and refuses by the reading where it is not.
 -- Assumes nothing.
-use mathlib.Core.Path.{ap}
+use mathlib.Core.Path.{sym, ap, _∙_}
 use native.Mathlib.Omega.{arith}
-use denote.Ref.{now}
 use Rattle.payload.specs.JoinAccept.{acceptDecrypted}
 use Rattle.payload.specs.Opening.{result, unopened, acceptOpened}
+use Rattle.payload.specs.declared.Opening.{Opening}
 use Rattle.payload.specs.declared.Opening.the-variants.{Opened}
-use Rattle.numbers.proofs.Others.{not-accept}
-use Rattle.payload.proofs.OpeningLaws.{on-accept, accept-length}
+use Rattle.payload.proofs.OpeningLaws.{no-accept, a-accept, accept-length}
 use borrow.Author.Needs.{needs}
 use Rattle.payload.proofs.decrypt_join_accept.Statement.{statement}
 use Rattle.payload.proofs.decrypt_join_accept.Tie as tie
@@ -15,31 +14,33 @@ use Rattle.payload.proofs.decrypt_join_accept.Tie as tie
 returns : tie.Need-returns
 unfolding acceptOpened
 returns c =
-    let a = c .before .before .before .before .before .before .args in
-    cc
-    (not-accept (unopened (now (a .frame))) (λ n. result Opened (acceptDecrypted (a .app-key) (now (a .frame))))
-    (c .before .before .before .read .result) (c .before .before .match .keys2))
+    let r = c .before .before in
+    let a = r .before .before .before .args in
+    let f = a .frame .now in
+    ap (λ (o : Opening). result o f) (c .no-opening .ensures)
+    ∙ no-accept (unopened f) f (r .read .result) (r .read .ensures) (λ n. result Opened (acceptDecrypted (a .app-key) f))
+    (c .before .match .keys2)
 
 decrypt-accept-requires : tie.Need-decrypt-accept-requires
 decrypt-accept-requires c κs =
-    let a = c .before .before .before .before .before .before .args in
+    let r = c .before .before .before in
     omega (
       arith,
-      accept-length (now (a .frame)) (c .before .before .before .read .result) (c .before .before .before .read .ensures)
-          (c .before .before .match .keys1),
+      accept-length (r .before .before .before .args .frame .now) (sym (r .read .ensures) ∙ c .before .enum-told .given .1),
     )
 
 returns-2 : tie.Need-returns-2
 unfolding acceptOpened
 returns-2 c =
-    let a = c .before .before .before .before .before .before .before .before .before .args in
-    cc (
-      on-accept (result Opened (acceptDecrypted (a .app-key) (now (a .frame)))) (unopened (now (a .frame)))
-          (c .before .before .before .before .before .before .read .result) (c .before .before .before .before .before .match .keys1),
-      ap (result Opened) (c .before .before .decrypt-accept .ensures),
-    )
+    let t = c .before .before .before .before in
+    let r = t .before .before in
+    let a = r .before .before .before .args in
+    let f = a .frame .now in
+    ap (result Opened) (c .before .before .decrypt-accept .ensures)
+    ∙ a-accept (unopened f) f (r .read .result) (r .read .ensures) (λ n. result Opened (acceptDecrypted (a .app-key) f))
+    (t .enum-told .given .1)
 
 pub decrypt-join-accept-spec : {M : Type 1} → statement M
 decrypt-join-accept-spec =
     tie.close
-    (tie.spec (λ c κs. search needs) (λ c. search needs) (λ c κs. search needs) (λ c κs. search needs) (λ c. search needs) returns decrypt-accept-requires (λ c. search needs) returns-2)
+    (tie.spec (λ c κs. search needs) (λ c. search needs) (λ c κs. search needs) (λ c. search needs) returns decrypt-accept-requires (λ c. search needs) returns-2)

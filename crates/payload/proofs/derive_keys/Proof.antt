@@ -1,13 +1,29 @@
 -- `derive_keys` ciphers the two blocks under one schedule.
 -- Assumes nothing.
-use Rattle.payload.specs.Opening.{sessionKey, derivedKeys}
+use mathlib.Core.Path.{ap₂}
+use mathlib.Core.List.{List}
+use Prim.Native.Nat.{ℕ}
+use Rattle.payload.specs.Opening.{derivedKeys}
+use Rattle.payload.proofs.OpeningLaws.{keysOf, session-key}
 use borrow.Author.Needs.{needs}
 use Rattle.payload.proofs.derive_keys.Statement.{statement}
 use Rattle.payload.proofs.derive_keys.Tie as tie
 
 returns : tie.Need-returns
-unfolding derivedKeys sessionKey
-returns c = cc
+unfolding derivedKeys
+returns c =
+    let app-block = c .before .before in
+    let nwk = app-block .before in
+    let nwk-block = nwk .before .before in
+    let w = nwk-block .before in
+    let i = w .before in
+    let n = i .before in
+    let a = n .before .before .args in
+    ap₂ (λ (x y : List ℕ). keysOf x y)
+    (session-key 1 (a .app-key) (a .dev-nonce) (a .frame .now) (n .three-at .ensures) (i .three-at2 .ensures) (w .expand .ensures)
+    (nwk-block .key-block .ensures) (nwk .encrypt-under .ensures))
+    (session-key 2 (a .app-key) (a .dev-nonce) (a .frame .now) (n .three-at .ensures) (i .three-at2 .ensures) (w .expand .ensures)
+    (app-block .key-block2 .ensures) (c .encrypt-under2 .ensures))
 
 pub derive-keys-spec : {M : Type 1} → statement M
 derive-keys-spec =

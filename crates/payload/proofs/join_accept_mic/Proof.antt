@@ -1,11 +1,11 @@
--- `join_accept_mic` tests what `join_passes` does where the reading is of the type, and refuses by the reading where it is not.
+-- `join_accept_mic` tests the MIC where the reading is of the type that it needs, and refuses by the
+-- reading where it is not.
 -- Assumes nothing.
+use mathlib.Core.Path.{sym, _∙_}
 use native.Mathlib.Omega.{arith}
-use denote.Ref.{now}
 use Rattle.payload.specs.Opening.{joinPasses, answered, joinAcceptTest}
 use Rattle.payload.specs.declared.MicTest.the-variants.{Refused}
-use Rattle.numbers.proofs.Others.{not-accept}
-use Rattle.payload.proofs.OpeningLaws.{on-accept, accept-length}
+use Rattle.payload.proofs.OpeningLaws.{no-accept, a-accept, accept-length}
 use borrow.Author.Needs.{needs}
 use Rattle.payload.proofs.join_accept_mic.Statement.{statement}
 use Rattle.payload.proofs.join_accept_mic.Tie as tie
@@ -13,21 +13,27 @@ use Rattle.payload.proofs.join_accept_mic.Tie as tie
 returns : tie.Need-returns
 unfolding joinAcceptTest
 returns c =
-    let a = c .before .before .before .before .before .args in
-    cc (not-accept Refused (λ n. answered (joinPasses (a .app-key) (now (a .frame)))) (c .before .before .before .read .result) (c .before .before .match .keys2))
+    let r = c .before .before in
+    let a = r .before .before .args in
+    c .no-test .ensures
+    ∙ no-accept Refused (a .frame .now) (r .read .result) (r .read .ensures)
+    (λ n. answered (joinPasses (a .app-key) (a .frame .now))) (c .before .match .keys2)
 
-join-passes-requires : tie.Need-join-passes-requires
-join-passes-requires c κs =
-    let a = c .before .before .before .before .args in
-    omega (arith, accept-length (now (a .frame)) (c .before .before .read .result) (c .before .before .read .ensures) (c .before .match .keys1))
+join-test-requires : tie.Need-join-test-requires
+join-test-requires c κs =
+    let r = c .before .before in
+    omega (arith, accept-length (r .before .before .args .frame .now) (sym (r .read .ensures) ∙ c .enum-told .given .1))
 
 returns-2 : tie.Need-returns-2
 unfolding joinAcceptTest
 returns-2 c =
-    let a = c .before .before .before .before .before .before .args in
-    cc (on-accept (answered (joinPasses (a .app-key) (now (a .frame)))) Refused (c .before .before .before .before .read .result) (c .before .before .before .match .keys1))
+    let r = c .before .before .before in
+    let a = r .before .before .args in
+    c .join-test .ensures
+    ∙ a-accept Refused (a .frame .now) (r .read .result) (r .read .ensures)
+    (λ n. answered (joinPasses (a .app-key) (a .frame .now))) (c .before .enum-told .given .1)
 
 pub join-accept-mic-spec : {M : Type 1} → statement M
 join-accept-mic-spec =
     tie.close
-    (tie.spec (λ c κs. search needs) (λ c. search needs) (λ c κs. search needs) (λ c κs. search needs) returns join-passes-requires (λ c κs. search needs) returns-2)
+    (tie.spec (λ c κs. search needs) (λ c. search needs) (λ c κs. search needs) returns join-test-requires returns-2)

@@ -1,14 +1,16 @@
--- `calculate_mic` is the first four bytes of the message's tag.
+-- `calculate_mic` is the first four bytes of the tag.
 -- Assumes nothing.
-use borrow.Author.Needs.{needs}
+use mathlib.Core.Path.{ap, _∙_}
+use lib.ListN.{take}
 use Rattle.cmac.specs.Rfc4493.{mic}
 use Rattle.secure.specs.Security.{joinMic}
+use borrow.Author.Needs.{needs}
 use Rattle.secure.proofs.securityhelpers.calculate_mic.Statement.{statement}
 use Rattle.secure.proofs.securityhelpers.calculate_mic.Tie as tie
 
 returns : tie.Need-returns
 unfolding joinMic mic
-returns c = cc
+returns c = c .mic-of .ensures ∙ ap (take 4) (c .before .tag .ensures)
 
 pub calculate-mic-spec : {M : Type 1} → statement M
 calculate-mic-spec = tie.close (tie.spec (λ c κs. search needs) (λ c κs. search needs) returns)

@@ -32,7 +32,9 @@ loop-again c =
     let i = head .loop .i in
     let end = turn .before .before .block-end .result in
     let s = turn .encrypt-under .result in
-    let known : s ≡ cipher (args .schedule .now) (set (args .block) 15 (blockNumber i)) = cc in
+    let known : s ≡ cipher (args .schedule .now) (set (args .block) 15 (blockNumber i)) =
+    turn .encrypt-under .ensures
+    ∙ ap (λ (n : ℕ). cipher (args .schedule .now) (set (args .block) 15 n)) (turn .before .block-number .ensures) in
     let whole : i % 16 ≡ 0 = head .loop .inv .1 (search needs) in (
       step-part end s (head .loop .inv .0) (search needs) (search needs)
           (λ k l. streamUnder-at (args .schedule .now) (args .block) i k whole (omega arith) ∙ ap (λ (b : List ℕ). at b k) (sym known))
