@@ -29,8 +29,9 @@ use Rattle.amend.specs.declared.Opened.{Opened}
 use Rattle.amend.proofs.Accepted.{accepted-opens}
 use Rattle.amend.proofs.Demand3.{Stands, state-after}
 use Rattle.amend.proofs.Sealed.{sealed-header, sealed-clear, sealed-accepted}
+use Rattle.examples.specs.Fips197.{key-B}
 use Rattle.versions.specs.Versions.{Reads, RefusesEach, SameForAll, Builder, BuildsData, Reports, Amends, untouched, stored, storesOnly, signsFirst, ConstantMic}
-use Rattle.versions.proofs.TwoFrames.{key, template, frameOf, frame-of-1, frame-of-2}
+use Rattle.versions.proofs.TwoFrames.{template, frameOf, frame-of-1, frame-of-2}
 
 -- ---- readers
 
@@ -70,11 +71,11 @@ pub made-up-length : (n : ℕ) (build : Builder) → BuildsData build → Report
 unfolding dataRefusal dataHeader fixedHeader
 made-up-length n build meets reports =
     let twelve : n ≡ 12 =
-    ap lengthOf (sym (reports key key fields [] [] 255 refl) ∙ meets key key fields [] [] 255)
-    ∙ frame-long key key fields [] [] in
+    ap lengthOf (sym (reports key-B key-B fields [] [] 255 refl) ∙ meets key-B key-B fields [] [] 255)
+    ∙ frame-long key-B key-B fields [] [] in
     let thirteen : n ≡ 13 =
-    ap lengthOf (sym (reports key key fields (2 ∷ []) [] 255 refl) ∙ meets key key fields (2 ∷ []) [] 255)
-    ∙ frame-long key key fields (2 ∷ []) [] in
+    ap lengthOf (sym (reports key-B key-B fields (2 ∷ []) [] 255 refl) ∙ meets key-B key-B fields (2 ∷ []) [] 255)
+    ∙ frame-long key-B key-B fields (2 ∷ []) [] in
     omega (arith, twelve, thirteen)
 
 -- ---- amendments
@@ -84,25 +85,25 @@ is-data = record { least = omega arith; most = omega arith; version = refl; from
 
 -- the frame that is opened, with a clear byte 0
 abbrev opened : Opened
-opened = openOf (frameOf 0) key key 0
+opened = openOf (frameOf 0) key-B key-B 0
 
 opens : opened .number ≡ 0
 opens =
     ap (λ (o : Opened). o .number)
-    (accepted-opens (frameOf 0) key key 0 (sealed-accepted template key key 0 is-data (0 ∷ []) refl refl))
+    (accepted-opens (frameOf 0) key-B key-B 0 (sealed-accepted template key-B key-B 0 is-data (0 ∷ []) refl refl))
 
 -- that byte set to v
 abbrev setTo : ℕ → Amendment
 setTo v = record { offset = 0; value = v }
 
 -- what demand 3 says of the frame after a list
-stands : (list : List Amendment) (s : Open) → Stands (frameOf 0) key key 0 list s
-    → take (s .length) (s .frame) ≡ sealed key key 0 (header template) (payloadBy (0 ∷ []) list)
+stands : (list : List Amendment) (s : Open) → Stands (frameOf 0) key-B key-B 0 list s
+    → take (s .length) (s .frame) ≡ sealed key-B key-B 0 (header template) (payloadBy (0 ∷ []) list)
 stands list s h =
     h .frame
-    ∙ ap₂ (λ (hdr p : List ℕ). sealed key key 0 hdr (payloadBy p list))
-    (sealed-header template key key 0 is-data (0 ∷ []) refl)
-    (sealed-clear template key key 0 is-data (0 ∷ []) refl)
+    ∙ ap₂ (λ (hdr p : List ℕ). sealed key-B key-B 0 hdr (payloadBy p list))
+    (sealed-header template key-B key-B 0 is-data (0 ∷ []) refl)
+    (sealed-clear template key-B key-B 0 is-data (0 ∷ []) refl)
 
 -- the byte that a MIC begins with
 abbrev micByte : List ℕ → ℕ
@@ -111,19 +112,19 @@ micByte f = at (drop 10 f) 0
 pub untouched-refuted : Amends untouched → ⊥
 unfolding payloadBy
 untouched-refuted meets =
-    let one = stands (setTo 1 ∷ []) (opened .state) (meets (frameOf 0) key key 0 opens (setTo 1 ∷ [])) in
-    let two = stands (setTo 2 ∷ []) (opened .state) (meets (frameOf 0) key key 0 opens (setTo 2 ∷ [])) in
+    let one = stands (setTo 1 ∷ []) (opened .state) (meets (frameOf 0) key-B key-B 0 opens (setTo 1 ∷ [])) in
+    let two = stands (setTo 2 ∷ []) (opened .state) (meets (frameOf 0) key-B key-B 0 opens (setTo 2 ∷ [])) in
     let same : _≡_ {A = ℕ} 0xaa 0x6c = ap micByte (sym (one ∙ frame-of-1) ∙ two ∙ frame-of-2) in
     omega (arith, same)
 
 -- the right state after the first amendment
-first : amendOf (opened .state) 0 1 .state ≡ openedOf (frameOf 1) key key 0
+first : amendOf (opened .state) 0 1 .state ≡ openedOf (frameOf 1) key-B key-B 0
 unfolding amendedBy payloadBy
 first =
-    state-after (frameOf 0) key key 0 opens (setTo 1 ∷ [])
-    ∙ ap₂ (λ (hdr p : List ℕ). openedOf (sealed key key 0 hdr (payloadBy p (setTo 1 ∷ []))) key key 0)
-    (sealed-header template key key 0 is-data (0 ∷ []) refl)
-    (sealed-clear template key key 0 is-data (0 ∷ []) refl)
+    state-after (frameOf 0) key-B key-B 0 opens (setTo 1 ∷ [])
+    ∙ ap₂ (λ (hdr p : List ℕ). openedOf (sealed key-B key-B 0 hdr (payloadBy p (setTo 1 ∷ []))) key-B key-B 0)
+    (sealed-header template key-B key-B 0 is-data (0 ∷ []) refl)
+    (sealed-clear template key-B key-B 0 is-data (0 ∷ []) refl)
 
 -- then the second byte stored, and the MIC left as it was
 abbrev both : List Amendment
@@ -136,13 +137,13 @@ left-over : micByte (standing (signsFirst (opened .state) both)) ≡ 0xaa
 unfolding signsFirst storesOnly openedOf held
 left-over =
     ap (λ (s : Open). micByte (standing (stored s 0 2)))
-    (first ∙ ap (λ (f : List ℕ). openedOf f key key 0) frame-of-1)
+    (first ∙ ap (λ (f : List ℕ). openedOf f key-B key-B 0) frame-of-1)
 
 pub signs-first-refuted : Amends signsFirst → ⊥
 unfolding payloadBy
 signs-first-refuted meets =
     let s = signsFirst (opened .state) both in
-    let same : _≡_ {A = ℕ} 0xaa 0x6c = sym left-over ∙ ap micByte (stands both s (meets (frameOf 0) key key 0 opens both) ∙ frame-of-2) in
+    let same : _≡_ {A = ℕ} 0xaa 0x6c = sym left-over ∙ ap micByte (stands both s (meets (frameOf 0) key-B key-B 0 opens both) ∙ frame-of-2) in
     omega (arith, same)
 
 -- two lists after which the MICs differ
@@ -150,8 +151,8 @@ pub constant-mic-refuted : (amend : Open → List Amendment → Open) → Amends
 unfolding payloadBy
 constant-mic-refuted amend meets constant =
     let s = opened .state in
-    let one = stands (setTo 1 ∷ []) (amend s (setTo 1 ∷ [])) (meets (frameOf 0) key key 0 opens (setTo 1 ∷ [])) in
-    let two = stands (setTo 2 ∷ []) (amend s (setTo 2 ∷ [])) (meets (frameOf 0) key key 0 opens (setTo 2 ∷ [])) in
+    let one = stands (setTo 1 ∷ []) (amend s (setTo 1 ∷ [])) (meets (frameOf 0) key-B key-B 0 opens (setTo 1 ∷ [])) in
+    let two = stands (setTo 2 ∷ []) (amend s (setTo 2 ∷ [])) (meets (frameOf 0) key-B key-B 0 opens (setTo 2 ∷ [])) in
     let same : _≡_ {A = ℕ} 0xaa 0x6c =
     sym (ap (λ (f : List ℕ). at (micOf f) 0) (one ∙ frame-of-1))
     ∙ ap (λ (m : List ℕ). at m 0) (constant s s (setTo 1 ∷ []) (setTo 2 ∷ []))
