@@ -76,19 +76,6 @@ pub struct DataParts {
     pub port: FPort,
 }
 
-// Stores src into out from place at on, and answers the place past it.
-fn put(out: &mut [u8], at: usize, src: &[u8]) -> usize
-    requires { ⌜ at + length (now src) ≤ length (now out) ⌝ }
-    ensures { λ r. ⌜ Put (now (out .entry)) at (now (src .entry)) r (now (out .exit)) ⌝ }
-{
-    let mut i: usize = 0;
-    while i < src.len() {
-        out[at + i] = src[i];
-        i += 1;
-    }
-    at + i
-}
-
 // Whether the commands fit FOpts.
 pub fn can_piggyback(commands: &[u8]) -> bool
     ensures { λ r. ⌜ r ≡ leb (length (now (commands .entry))) 15 ⌝ }
@@ -125,10 +112,10 @@ fn put_parts(out: &mut [u8], first: &[u8], second: &[u8], third: &[u8], fourth: 
         ⌜ Put (now (out .entry)) 0 (now (first .entry) ++ now (second .entry) ++ now (third .entry) ++ now (fourth .entry)) r
         (now (out .exit)) ⌝ }
 {
-    let a = put(out, 0, first);
-    let b = put(out, a, second);
-    let c = put(out, b, third);
-    put(out, c, fourth)
+    let a = pieces::put(out, 0, first);
+    let b = pieces::put(out, a, second);
+    let c = pieces::put(out, b, third);
+    pieces::put(out, c, fourth)
 }
 
 // The header's eight bytes, FOpts, the port byte if there is one and the payload, from the start of out.
@@ -323,20 +310,6 @@ fn join_accept_refusal(j: JoinAcceptParts, channels: &[u32], room: usize) -> u8
     }
 }
 
-// The sixteen bytes from `from` on.
-fn block_at(bytes: &[u8], from: usize) -> [u8; 16]
-    requires { ⌜ from + 16 ≤ length (now bytes) ⌝ }
-    ensures { λ r. ⌜ r ≡ part from 16 (now (bytes .entry)) ⌝ }
-{
-    let mut r = [0u8; 16];
-    let mut i: usize = 0;
-    while i < 16 {
-        r[i] = bytes[from + i];
-        i += 1;
-    }
-    r
-}
-
 // AES decryption of the block from `from` on, where it lies.
 fn decrypt_block(schedule: &[u8; 176], bytes: &mut [u8], from: usize)
     requires { ⌜ from + 16 ≤ length (now bytes) ⌝ }
@@ -344,9 +317,9 @@ fn decrypt_block(schedule: &[u8; 176], bytes: &mut [u8], from: usize)
         ⌜ now (bytes .exit)
         ≡ sets (now (bytes .entry)) from (invCipher (now (schedule .entry)) (part from 16 (now (bytes .entry)))) ⌝ }
 {
-    let block = block_at(bytes, from);
+    let block = pieces::block_at(bytes, from);
     let d = aes::decrypt_under(schedule, block);
-    put(bytes, from, &d);
+    pieces::put(bytes, from, &d);
 }
 
 // AES decryption of each whole block of sixteen bytes, where it lies.
@@ -421,7 +394,7 @@ fn seal(
     let key = payload_key(&out[..start], nwk_skey, app_skey);
     encrypt_part(key, out, start, end, counter);
     let mic = calculate_data_mic(nwk_skey, &out[..end], counter);
-    put(out, end, &mic);
+    pieces::put(out, end, &mic);
 }
 
 // Builds a data frame (4.3) at the start of out. Commands go into FOpts, on port 0 into the payload.
@@ -456,7 +429,7 @@ fn sign(out: &mut [u8], n: usize, app_key: [u8; 16]) -> usize
     ensures { λ r. ⌜ Put (now (out .entry)) n (joinMic «app_key» (take n (now (out .entry)))) r (now (out .exit)) ⌝ }
 {
     let mic = calculate_mic(app_key, &out[..n]);
-    put(out, n, &mic)
+    pieces::put(out, n, &mic)
 }
 
 const JOIN_REQUEST_MHDR: u8 = 0;
@@ -485,10 +458,10 @@ fn fill_accept(j: JoinAcceptParts, channels: &[u32], out: &mut [u8]) -> usize
     ensures { λ r. ⌜ Put (now (out .entry)) 0 (joinAcceptBody j (now (channels .entry))) r (now (out .exit)) ⌝ }
 {
     let head = accept_head(j);
-    let a = put(out, 0, &head);
+    let a = pieces::put(out, 0, &head);
     if j.with_c_f_list {
         let list = cf_list_bytes(channels);
-        return put(out, a, &list);
+        return pieces::put(out, a, &list);
     }
     a
 }

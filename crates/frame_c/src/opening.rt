@@ -9,7 +9,6 @@ use crate::answers::answer;
 use crate::answers::opening_answer;
 use crate::answers::test_answer;
 use crate::storing::or_short;
-use crate::storing::put;
 use frame::keys::MaybeKey;
 use payload::SessionKeys;
 
@@ -151,8 +150,8 @@ fn store_keys(session: SessionKeys, keys: &mut [u8]) -> u64
     }
     let nwk_skey = session.nwk_skey;
     let app_skey = session.app_skey;
-    let end = put(keys, 0, &nwk_skey);
-    put(keys, end, &app_skey);
+    let end = pieces::put(keys, 0, &nwk_skey);
+    pieces::put(keys, end, &app_skey);
     answer(0, place)
 }
 

@@ -6,7 +6,6 @@ ghost use Rattle.base.specs.Bytes.{at};
 ghost use Rattle.frame_c.specs.Fields.{fieldsOf, FieldsInto, ReadInto};
 use crate::answers::answer;
 use crate::storing::or_short;
-use crate::storing::put;
 use frame::packet_length::MIC_LEN;
 use frame::parser::read;
 use numbers::Values;
@@ -66,7 +65,7 @@ fn store_fields(frame: &[u8], v: Values, fields: &mut [u8]) -> u64
         return answer(refusal, place);
     }
     let bytes = field_bytes(frame, v);
-    put(fields, 0, &bytes);
+    pieces::put(fields, 0, &bytes);
     answer(0, place)
 }
 

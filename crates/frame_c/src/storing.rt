@@ -1,8 +1,5 @@
-// Storing an answer of several bytes, where there is room for it.
+// Whether there is room to store an answer of several bytes.
 ghost use mathlib.Core.Path.{_≡_};
-ghost use Prim.Native.Nat.{_+_, _≤_};
-ghost use lib.ListN.{length};
-ghost use Rattle.base.proofs.Put.{Put};
 ghost use Rattle.frame_c.specs.Answers.{orShort};
 
 pub(crate) const BUFFER_TOO_SHORT: u8 = 7;
@@ -18,17 +15,4 @@ pub(crate) fn or_short(refusal: u8, bytes: usize, room: usize) -> u8
         return BUFFER_TOO_SHORT;
     }
     0
-}
-
-// Stores bytes from a place on, and answers the place past them.
-pub(crate) fn put(out: &mut [u8], at: usize, bytes: &[u8]) -> usize
-    requires { ⌜ at + length (now bytes) ≤ length (now out) ⌝ }
-    ensures { λ r. ⌜ Put (now (out .entry)) at (now (bytes .entry)) r (now (out .exit)) ⌝ }
-{
-    let mut i: usize = 0;
-    while i < bytes.len() {
-        out[at + i] = bytes[i];
-        i += 1;
-    }
-    at + i
 }

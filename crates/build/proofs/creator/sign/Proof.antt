@@ -3,6 +3,7 @@
 use native.Mathlib.Omega.{arith}
 use lib.ListN.{length-take}
 use Rattle.base.proofs.Put.{renamed}
+use Rattle.pieces.proofs.Laws.{fitted}
 use borrow.Author.Needs.{needs}
 use Rattle.build.proofs.creator.sign.Statement.{statement}
 use Rattle.build.proofs.creator.sign.Tie as tie
@@ -11,7 +12,7 @@ slice-aggregate-calculate-mic : tie.Need-slice-aggregate-calculate-mic
 slice-aggregate-calculate-mic c = simp length-take (omega (arith, c .before .before .pre))
 
 returns : tie.Need-returns
-returns c = renamed (c .before .before .put .ensures) (c .before .before .before .before .before .calculate-mic .ensures)
+returns c = renamed (fitted (c .before .before .put .ensures) (search needs)) (c .before .before .before .before .before .calculate-mic .ensures)
 
 pub sign-spec : {M : Type 1} → statement M
 sign-spec =

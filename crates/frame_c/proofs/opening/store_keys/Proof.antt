@@ -6,6 +6,7 @@ use mathlib.Core.List.{_++_}
 use native.Mathlib.Omega.{arith}
 use lib.ListN.{length, length-append}
 use Rattle.base.proofs.Put.{then, put-length}
+use Rattle.pieces.proofs.Laws.{fitted}
 use Rattle.frame_c.proofs.Fillings.{room-left, refused, stored}
 use Rattle.frame_c.proofs.opening.store_keys.Statement.{statement}
 use Rattle.frame_c.proofs.opening.store_keys.Tie as tie
@@ -22,16 +23,15 @@ both-long c = omega (arith, length-append (c .args .session .«nwk_skey») (c .a
 returns : tie.Need-returns
 returns c = refused (c .before .before .or-short .ensures) (c .before .if1 .taken) (c .answer .ensures)
 
-put-requires : tie.Need-put-requires
-put-requires c κs = omega (arith, room-left _ _ _ (c .before .before .before .before .before .or-short .ensures) (c .before .before .before .before .if1 .left), nwk-long (c .before .before .before .before .before .before .before))
-
-put-requires-2 : tie.Need-put-requires-2
-put-requires-2 c κs = omega (arith, room-left _ _ _ (c .before .before .before .before .before .before .before .before .before .before .or-short .ensures) (c .before .before .before .before .before .before .before .before .before .if1 .left), nwk-long (c .before .before .before .before .before .before .before .before .before .before .before .before), app-long (c .before .before .before .before .before .before .before .before .before .before .before .before), c .before .before .before .before .put .ensures .next, put-length (c .before .before .before .before .put .ensures))
-
 returns-2 : tie.Need-returns-2
 returns-2 c =
-    stored _ _ (c .before .before .before .before .before .before .before .before .before .before .before .before .before .before .or-short .ensures) (c .before .before .before .before .before .before .before .before .before .before .before .before .before .if1 .left) (both-long (c .before .before .before .before .before .before .before .before .before .before .before .before .before .before .before .before)) refl (c .answer2 .ensures)
-    (then (c .before .before .before .before .before .before .before .before .put .ensures) (c .before .before .before .put2 .ensures))
+    let start = c .before .before .before .before .before .before .before .before .before .before .before .before .before .before .before .before in
+    let short = c .before .before .before .before .before .before .before .before .before .before .before .before .before .before .or-short .ensures in
+    let left = c .before .before .before .before .before .before .before .before .before .before .before .before .before .if1 .left in
+    let room = room-left _ _ _ short left in
+    let one = fitted (c .before .before .before .before .before .before .before .before .put .ensures) (omega (arith, room, nwk-long start)) in
+    let two = fitted (c .before .before .before .put2 .ensures) (omega (arith, room, nwk-long start, app-long start, one .next, put-length one)) in
+    stored _ _ short left (both-long start) refl (c .answer2 .ensures) (then one two)
 
 pub store-keys-spec : {M : Type 1} → statement M
-store-keys-spec = tie.close (tie.spec (λ c κs. search needs) (λ c κs. search needs) returns (λ c. search needs) put-requires (λ c. search needs) put-requires-2 (λ c κs. search needs) (λ c. search needs) returns-2)
+store-keys-spec = tie.close (tie.spec (λ c κs. search needs) (λ c κs. search needs) returns (λ c. search needs) (λ c κs. search needs) (λ c. search needs) (λ c κs. search needs) (λ c κs. search needs) (λ c. search needs) returns-2)

@@ -4,6 +4,7 @@ use borrow.Author.Needs.{needs}
 use mathlib.Core.Path.{_≡_}
 use native.Mathlib.Omega.{arith}
 use lib.ListN.{length}
+use Rattle.pieces.proofs.Laws.{fitted}
 use Rattle.frame_c.proofs.Fillings.{room-left, refused, stored}
 use Rattle.frame_c.proofs.reading.store_fields.Statement.{statement}
 use Rattle.frame_c.proofs.reading.store_fields.Tie as tie
@@ -14,13 +15,13 @@ twelve c = search needs
 returns : tie.Need-returns
 returns c = refused (c .before .before .or-short .ensures) (c .before .if1 .taken) (c .answer .ensures)
 
-put-requires : tie.Need-put-requires
-put-requires c κs = omega (arith, room-left _ _ _ (c .before .before .before .before .or-short .ensures) (c .before .before .before .if1 .left), twelve (c .before .before))
-
 returns-2 : tie.Need-returns-2
 returns-2 c =
-    stored _ _ (c .before .before .before .before .before .before .before .before .or-short .ensures) (c .before .before .before .before .before .before .before .if1 .left) (twelve (c .before .before .before .before .before .before))
-    (c .before .before .before .before .before .before .field-bytes .ensures) (c .answer2 .ensures) (c .before .before .before .put .ensures)
+    let bytes = c .before .before .before .before .before .before in
+    let short = bytes .before .before .or-short .ensures in
+    let left = bytes .before .if1 .left in
+    stored _ _ short left (twelve bytes) (bytes .field-bytes .ensures) (c .answer2 .ensures)
+    (fitted (c .before .before .before .put .ensures) (omega (arith, room-left _ _ _ short left, twelve bytes)))
 
 pub store-fields-spec : {M : Type 1} → statement M
-store-fields-spec = tie.close (tie.spec (λ c κs. search needs) (λ c κs. search needs) returns (λ c κs. search needs) (λ c. search needs) put-requires (λ c κs. search needs) (λ c. search needs) returns-2)
+store-fields-spec = tie.close (tie.spec (λ c κs. search needs) (λ c κs. search needs) returns (λ c κs. search needs) (λ c. search needs) (λ c κs. search needs) (λ c κs. search needs) (λ c. search needs) returns-2)
