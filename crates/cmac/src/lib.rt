@@ -76,13 +76,13 @@ fn last_block(l: [u8; 16], chain: [u8; 16], count: usize) -> [u8; 16]
     ensures { λ r. ⌜ r ≡ ended l chain count ⌝ }
 {
     let k1 = double(l);
+    let mut last = chain;
     if count < 16 {
-        let k2 = double(k1);
-        let mut last = chain;
         last[count] = last[count] ^ 0x80;
+        let k2 = double(k1);
         return xored(last, k2);
     }
-    xored(chain, k1)
+    xored(last, k1)
 }
 
 // One step of the chain: what stands after `block`, where `chain` stood before it.

@@ -26,5 +26,5 @@ returns-2 c =
 pub last-block-spec : {M : Type 1} → statement M
 last-block-spec =
     tie.close
-    (tie.spec (λ c κs. search needs) (λ c κs. search needs) (λ c. search needs) (λ c. search needs) (λ c κs. search needs) returns
+    (tie.spec (λ c κs. search needs) (λ c. search needs) (λ c. search needs) (λ c κs. search needs) (λ c κs. search needs) returns
     (λ c κs. search needs) returns-2)
