@@ -1,18 +1,14 @@
--- The two loops over a state's columns. One fills a state a column a turn: after column q it holds 4 (q + 1) bytes by their
--- rule; a column's four bytes are looked at with their places written out, where the rule computes. The other readies a
--- state for MixColumns to unmix it.
+-- A loop that fills a state a column a turn: after column q it holds 4 (q + 1) bytes by their rule. A column's four
+-- bytes are looked at with their places written out, where the rule computes.
 -- Assumes nothing.
 use mathlib.Core.Path.{_≡_}
 use mathlib.Core.List.{List}
 use Prim.Native.Nat.{ℕ, zero, suc, _+_, _*_, _<_}
 use native.Mathlib.Omega.{arith}
 use lib.ListN.{set}
-use Rattle.base.specs.Bytes.{tab, at, _⊕_, AreBytes}
-use Rattle.base.proofs.Tab.{tab-ext}
-use Rattle.base.proofs.Tested.{agree}
+use Rattle.base.specs.Bytes.{at}
 use Rattle.base.proofs.Filling.{Filling, step}
-use Rattle.aes.specs.Fips197.{below, mixedAt, mixColumns, invMixRow, invMixColumns}
-use Rattle.aes.proofs.Linear.{fourTimes, unmixed-right}
+use Rattle.aes.specs.Fips197.{mixedAt}
 
 -- four bytes more
 four : {g : ℕ → ℕ} {r : List ℕ} {i x y z v : ℕ} → Filling 16 g r i → i + 3 < 16
@@ -32,21 +28,3 @@ column f s r (suc zero) x y z v h k ex ey ez ev = four h (omega arith) ex ey ez 
 column f s r (suc (suc zero)) x y z v h k ex ey ez ev = four h (omega arith) ex ey ez ev
 column f s r (suc (suc (suc zero))) x y z v h k ex ey ez ev = four h (omega arith) ex ey ez ev
 column f s r (suc (suc (suc (suc q)))) x y z v h k ex ey ez ev = absurd (omega arith)
-
--- ---- unmixing
-
--- where the byte two rows below stands, as the code finds it
-pub opposite : (i : ℕ) → i < 16 → i ⊕ 2 ≡ below i 2
-opposite = agree 16 (λ i. i ⊕ 2) (λ i. below i 2) tt
-
--- a byte with 4 times its sum with the byte two rows below
-abbrev pub readiedAt : List ℕ → ℕ → ℕ
-readiedAt s i = at s i ⊕ fourTimes (at s i) (at s (below i 2))
-
-pub mixed-readied : (s : List ℕ) → AreBytes s → mixColumns (tab 16 (readiedAt s)) ≡ invMixColumns s
-unfolding mixColumns invMixColumns
-mixed-readied s h =
-    tab-ext 16 _ (mixedAt invMixRow s)
-    (λ i k.
-    unmixed-right (at s i) (at s (below i 1)) (at s (below i 2)) (at s (below i 3)) (h i) (h (below i 1)) (h (below i 2))
-    (h (below i 3)))

@@ -177,12 +177,12 @@ fourTimes a c = mul 2 (mul 2 (a ⊕ c))
 
 -- the inverse matrix is that of MixColumns times the one that 5, 0, 4, 0 fix
 pub unmixed-right : (a b c d : ℕ) → a < 256 → b < 256 → c < 256 → d < 256
-    → mixRow (a ⊕ fourTimes a c) (b ⊕ fourTimes b d) (c ⊕ fourTimes c a) (d ⊕ fourTimes d b) ≡ invMixRow a b c d
+    → mixRow (a ⊕ fourTimes a c) (b ⊕ fourTimes b d) (c ⊕ fourTimes a c) (d ⊕ fourTimes b d) ≡ invMixRow a b c d
 unfolding xtime mulBits mul row
 unmixed-right =
     same-rule _ invMixRow
     (row-of 0x02 0x01 0x01 0x03 (first plus times 2 (times 2 (first plus third)))
     (second plus times 2 (times 2 (second plus fourth)))
-    (third plus times 2 (times 2 (third plus first)))
-    (fourth plus times 2 (times 2 (fourth plus second))))
+    (third plus times 2 (times 2 (first plus third)))
+    (fourth plus times 2 (times 2 (second plus fourth))))
     unmix-linear tt tt tt tt
