@@ -1,5 +1,5 @@
--- The refusals of building: each is given exactly where its test holds and none before it does; what is accepted passes
--- them all; and with the port known, the tests of data building come down to two lengths.
+-- The refusals of building a data frame: each is given exactly where its test holds and none before it does; what is accepted
+-- passes them all; and with the port known, the tests come down to two lengths.
 -- Assumes nothing.
 use mathlib.Core.Path.{_≡_, sym, ap, ap₂, _∙_, subst}
 use mathlib.Core.Bool.{Bool, true, false, not}
@@ -11,12 +11,11 @@ use lib.ListN.{length, length-append}
 use borrow.Author.Tests.{lt-ltb, le-ltb, ltb-false, eq-eqb, ne-eqb, eqb-true, not-false}
 use Rattle.base.specs.Bytes.{pick}
 use Rattle.base.proofs.Cases.{by-order, by-equal}
-use Rattle.build.specs.Building.{both, firstOf, isAbsent, isZero, portBytes, foptsOf, bodyOf, dataHeader, clearData, dataLength, dataTests, dataRefusal, joinAcceptTests, joinAcceptRefusal}
+use Rattle.build.specs.Building.{both, firstOf, isAbsent, isZero, portBytes, foptsOf, bodyOf, dataHeader, clearData, dataLength, dataTests, dataRefusal}
 use Rattle.build.specs.Cases.{absentRefusal, portRefusal}
 use Rattle.frame.specs.declared.parser.FPort.{FPort}
 use Rattle.frame.specs.declared.parser.FPort.the-variants.{Absent, Port}
 use Rattle.build.specs.declared.creator.DataParts.{DataParts}
-use Rattle.build.specs.declared.creator.JoinAcceptParts.{JoinAcceptParts}
 use Rattle.build.proofs.FirstTest.{First, testAt, none-fails, given-first, first-given}
 use Rattle.build.proofs.Header.{length-header}
 
@@ -32,17 +31,6 @@ module _ (d : DataParts) (commands body : List ℕ) (room : ℕ) where
       → dataRefusal d commands body room ≡ testAt (dataTests d commands body room) i .1
   unfolding dataRefusal
   data-refuses i h = first-given (dataTests d commands body room) i h
-
-module _ (j : JoinAcceptParts) (channels : List ℕ) (room : ℕ) where
-  pub accept-refused : (i : ℕ) → i < 2 → joinAcceptRefusal j channels room ≡ testAt (joinAcceptTests j channels room) i .1
-      → First (joinAcceptTests j channels room) i
-  unfolding joinAcceptRefusal
-  accept-refused i l e = given-first (joinAcceptTests j channels room) tt i l e
-
-  pub accept-refuses : (i : ℕ) → First (joinAcceptTests j channels room) i
-      → joinAcceptRefusal j channels room ≡ testAt (joinAcceptTests j channels room) i .1
-  unfolding joinAcceptRefusal
-  accept-refuses i h = first-given (joinAcceptTests j channels room) i h
 
 -- ---- the length of a data frame
 

@@ -2,8 +2,6 @@ pub mod BuildingRefusals
 pub mod BuiltLaws
 pub mod FirstTest
 pub mod Header
-pub mod JoinBodies
 pub mod ReadBackData
-pub mod ReadBackJoin
 pub mod ReadBackOpened
 pub mod Table

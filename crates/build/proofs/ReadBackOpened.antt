@@ -1,6 +1,5 @@
--- What was built passes its MIC test and opens: a data frame to the clear payload or commands, and it says which of the two
--- it holds; a join-accept to the clear bytes and their MIC, checked. What `ReadBackData` and `ReadBackJoin` show of the
--- parts, said of what the calls answer.
+-- A data frame that was built passes its MIC test and opens to the clear payload or commands, and says which of the two it
+-- holds. What `ReadBackData` shows of the parts, said of what the calls answer.
 -- Assumes nothing.
 use mathlib.Core.Path.{_≡_, sym, ap, ap₂, _∙_}
 use mathlib.Core.Bool.{Bool}
@@ -18,26 +17,19 @@ use Rattle.frame.specs.Reading.{portOf, payloadOf}
 use Rattle.frame.specs.declared.parser.FPort.the-variants.{Absent, Port}
 use Rattle.frame.specs.declared.parser.FrmPayload.{FrmPayload}
 use Rattle.frame.specs.declared.parser.FrmPayload.the-variants.{Data as PlainData, MacCommands}
-use Rattle.numbers.specs.Numbers.{onAccept}
-use Rattle.frame.proofs.ReadingLaws.{data-read, request-read}
+use Rattle.frame.proofs.ReadingLaws.{data-read}
 use Rattle.frame.proofs.ReadingSteps.{port-there, port-absent, payload-commands, payload-data}
-use Rattle.payload.specs.Opening.{result, unopened, joinPasses, joinRequestTest, dataTest, dataOpened, givenKey}
-use Rattle.default_crypto.specs.Checked.{acceptTested, acceptOpenedChecked}
-use Rattle.payload.specs.JoinAccept.{acceptDecrypted}
+use Rattle.payload.specs.Opening.{result, dataTest, dataOpened, givenKey}
 use Rattle.secure.specs.Sealing.{payloadKey}
-use Rattle.secure.specs.Security.{crypted, fullCounter, covered, joinMic}
+use Rattle.secure.specs.Security.{crypted, fullCounter}
 use Rattle.payload.specs.declared.MicTest.the-variants.{Passes}
 use Rattle.payload.specs.declared.Opening.the-variants.{Opened}
-use Rattle.payload.proofs.DecryptionLaws.{request-mic-exactly, data-mic-exactly}
+use Rattle.payload.proofs.DecryptionLaws.{data-mic-exactly}
 use Rattle.payload.proofs.OpenedLaws.{opened-both}
-use Rattle.cmac.proofs.Compared.{test-of-same}
-use Rattle.build.specs.Building.{bodyOf, dataHeader, dataRefusal, joinAcceptBody}
-use Rattle.build.specs.Frames.{dataFrame, signed}
-use Rattle.build.specs.declared.creator.JoinAcceptParts.{JoinAcceptParts}
-use Rattle.build.specs.declared.creator.JoinRequestParts.{JoinRequestParts}
+use Rattle.build.specs.Building.{bodyOf, dataHeader, dataRefusal}
+use Rattle.build.specs.Frames.{dataFrame}
 use Rattle.build.specs.declared.creator.DataParts.{DataParts}
 use Rattle.build.proofs.ReadBackData.{DataBack, data-back}
-use Rattle.build.proofs.ReadBackJoin.{RequestBack, AcceptBack}
 
 -- what a port says of the payload behind it
 abbrev pub heldBy : ℕ → ℕ → ℕ → FrmPayload
@@ -105,20 +97,3 @@ pub data-opens : (nwk app : List ℕ) (d : DataParts) → length (d .«dev_addr�
     → dataRefusal d commands body room ≡ 0 → DataOpens nwk app d commands body (dataFrame nwk app d commands body)
 data-opens nwk app d four commands body room e =
     opens-back nwk app d commands body (dataFrame nwk app d commands body) (data-back nwk app d four commands body room e)
-
--- ---- the join messages, of what `join-request-back` and `join-accept-back` give
-
-pub request-passes : (key : List ℕ) (j : JoinRequestParts) (f : List ℕ) → RequestBack key j f → joinRequestTest key f ≡ Passes
-request-passes key j f b = request-mic-exactly key f (request-read f (b .reads)) .back (b .mic)
-
--- the checked opening of a built join-accept accepts it, and leaves the clear bytes and their MIC
-pub accept-opens : (key : List ℕ) (j : JoinAcceptParts) (channels f : List ℕ)
-    → AcceptBack key j channels f (acceptDecrypted key f)
-    → acceptOpenedChecked key f ≡ result Opened (signed key (joinAcceptBody j channels))
-unfolding acceptOpenedChecked acceptTested joinPasses
-accept-opens key j channels f b =
-    let g = acceptDecrypted key f in
-    ap (onAccept (λ n. acceptTested key f) (unopened f)) (b .reads)
-    ∙ ap (λ (t : Bool). pick t (result Opened g) (unopened f 5 0))
-    (test-of-same (micOf g) (joinMic key (covered g)) (b .mic))
-    ∙ ap (result Opened) (b .clear)

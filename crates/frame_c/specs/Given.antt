@@ -10,8 +10,8 @@ use Rattle.frame.specs.declared.parser.FPort.{FPort}
 use Rattle.frame.specs.declared.parser.FPort.the-variants.{Absent, Port}
 use Rattle.build.specs.Building.{dataRefusal}
 use Rattle.build.specs.declared.creator.DataParts.{DataParts}
-use Rattle.build.specs.declared.creator.JoinAcceptParts.{JoinAcceptParts}
-use Rattle.build.specs.declared.creator.JoinRequestParts.{JoinRequestParts}
+use Rattle.build_join.specs.declared.creator.JoinAcceptParts.{JoinAcceptParts}
+use Rattle.build_join.specs.declared.creator.JoinRequestParts.{JoinRequestParts}
 use Rattle.frame.specs.declared.keys.MaybeKey.{MaybeKey}
 
 -- which keys are given: 1 the network key, 2 the application key, 3 both

@@ -2,15 +2,16 @@
 ghost use mathlib.Core.Path.{_≡_};
 ghost use lib.Dec.{eqb};
 ghost use lib.ListN.{length};
-ghost use Rattle.build.specs.Building.{joinRequestRefusal, joinAcceptRefusal};
-ghost use Rattle.build.specs.Frames.{joinRequest, joinAccept, dataFrame};
+ghost use Rattle.build_join.specs.Building.{joinRequestRefusal, joinAcceptRefusal};
+ghost use Rattle.build.specs.Frames.{dataFrame};
+ghost use Rattle.build_join.specs.Frames.{joinRequest, joinAccept};
 ghost use Rattle.frame_c.specs.Answers.{builtAnswer, Builds};
 ghost use Rattle.frame_c.specs.Given.{requestParts, acceptParts, portOf, dataParts, dataRefused};
 use crate::answers::answer;
 use build::creator::Built;
 use build::creator::DataParts;
-use build::creator::JoinAcceptParts;
-use build::creator::JoinRequestParts;
+use build_join::creator::JoinAcceptParts;
+use build_join::creator::JoinRequestParts;
 use control::is_confirmed;
 use control::is_uplink;
 use frame::parser::FPort;
@@ -47,7 +48,7 @@ pub extern "C" fn zinovoky_build_join_request(
         dev_eui: dev,
         dev_nonce: nonce,
     };
-    let built = build::creator::build_join_request(parts, key, out);
+    let built = build_join::creator::build_join_request(parts, key, out);
     built_answer(built)
 }
 
@@ -86,7 +87,7 @@ pub extern "C" fn zinovoky_build_join_accept(
     let key = *app_key;
     let bytes = *fixed;
     let parts = accept_parts(bytes, with_list == 1);
-    let built = build::creator::build_join_accept(parts, channels, key, out);
+    let built = build_join::creator::build_join_accept(parts, channels, key, out);
     built_answer(built)
 }
 

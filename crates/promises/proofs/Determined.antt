@@ -68,9 +68,9 @@ use Rattle.payload.proofs.decrypt_join_accept.Reads as payload-decrypt-join-acc
 use Rattle.default_crypto.proofs.decrypt_data_checked.Reads as checked-decrypt-data-checked
 use Rattle.default_crypto.proofs.decrypt_join_accept_checked.Reads as checked-decrypt-join-accept-checked
 use Rattle.build.proofs.creator.build_data.Reads as build-build-data
-use Rattle.build.proofs.creator.build_join_accept.Reads as build-build-join-accept
-use Rattle.build.proofs.creator.build_join_request.Reads as build-build-join-request
 use Rattle.build.proofs.creator.can_piggyback.Reads as build-can-piggyback
+use Rattle.build_join.proofs.creator.build_join_accept.Reads as join-build-join-accept
+use Rattle.build_join.proofs.creator.build_join_request.Reads as join-build-join-request
 use Rattle.amend.proofs.Open.amend.Reads as amend-amend
 use Rattle.amend.proofs.amend_frame.Reads as amend-amend-frame
 use Rattle.amend.proofs.open_frame.Reads as amend-open-frame
@@ -302,14 +302,16 @@ checked-decrypt-join-accept-checked-determined κs a x y s t p q = both _ _ (p �
 pub build-build-data-determined : DeterminedLent (λ κs s. now (s .1 .1 .1 .1 .1 .0)) build-build-data.Learnt
 build-build-data-determined κs a x y s t p q = (p .answer ∙ sym (q .answer), p .output ∙ sym (q .output))
 
-pub build-build-join-request-determined : DeterminedLent (λ κs s. now (s .1 .1 .0)) build-build-join-request.Learnt
-build-build-join-request-determined κs a x y s t p q = (p .answer ∙ sym (q .answer), p .output ∙ sym (q .output))
-
-pub build-build-join-accept-determined : DeterminedLent (λ κs s. now (s .1 .1 .1 .0)) build-build-join-accept.Learnt
-build-build-join-accept-determined κs a x y s t p q = (p .answer ∙ sym (q .answer), p .output ∙ sym (q .output))
-
 pub build-can-piggyback-determined : Determined build-can-piggyback.Learnt
 build-can-piggyback-determined κs a x y s t p q = p ∙ sym q
+
+-- ---- build_join
+
+pub join-build-join-request-determined : DeterminedLent (λ κs s. now (s .1 .1 .0)) join-build-join-request.Learnt
+join-build-join-request-determined κs a x y s t p q = (p .answer ∙ sym (q .answer), p .output ∙ sym (q .output))
+
+pub join-build-join-accept-determined : DeterminedLent (λ κs s. now (s .1 .1 .1 .0)) join-build-join-accept.Learnt
+join-build-join-accept-determined κs a x y s t p q = (p .answer ∙ sym (q .answer), p .output ∙ sym (q .output))
 
 -- ---- amend
 

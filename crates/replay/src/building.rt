@@ -16,11 +16,11 @@ use crate::output::put_all;
 use crate::output::put_length;
 use build::creator::Built;
 use build::creator::DataParts;
-use build::creator::JoinAcceptParts;
-use build::creator::JoinRequestParts;
 use build::creator::build_data;
-use build::creator::build_join_accept;
-use build::creator::build_join_request;
+use build_join::creator::JoinAcceptParts;
+use build_join::creator::JoinRequestParts;
+use build_join::creator::build_join_accept;
+use build_join::creator::build_join_request;
 use frame::parser::FPort;
 
 // A byte's worth of channels.

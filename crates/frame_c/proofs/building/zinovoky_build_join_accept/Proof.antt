@@ -4,9 +4,9 @@ use borrow.Author.Needs.{needs}
 use mathlib.Core.Path.{ap}
 use denote.Ref.{now}
 use lib.ListN.{length}
-use Rattle.build.specs.Building.{joinAcceptRefusal}
-use Rattle.build.specs.Frames.{joinAccept}
-use Rattle.build.specs.declared.creator.JoinAcceptParts.{JoinAcceptParts}
+use Rattle.build_join.specs.Building.{joinAcceptRefusal}
+use Rattle.build_join.specs.Frames.{joinAccept}
+use Rattle.build_join.specs.declared.creator.JoinAcceptParts.{JoinAcceptParts}
 use Rattle.frame_c.proofs.Buildings.{made}
 use Rattle.frame_c.proofs.building.zinovoky_build_join_accept.Statement.{statement}
 use Rattle.frame_c.proofs.building.zinovoky_build_join_accept.Tie as tie

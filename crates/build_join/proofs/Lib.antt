@@ -1,0 +1,5 @@
+pub mod BuildingRefusals
+pub mod BuiltLaws
+pub mod JoinBodies
+pub mod ReadBackJoin
+pub mod ReadBackOpened
