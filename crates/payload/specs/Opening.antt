@@ -1,6 +1,6 @@
 -- What testing and opening a frame gives, from LoRaWAN 1.0: the MIC (4.4, 6.2.4, 6.2.5), the payload (4.3.3), a
--- join-accept and its session keys (6.2.5). The refusals come in the order of document 01: reading, 5, 6; what is refused
--- leaves every byte as it was.
+-- join-accept and its session keys (6.2.5). The refusals come in the order of document 01: reading, 6; what is refused leaves
+-- every byte as it was.
 -- Assumes nothing.
 use mathlib.Core.Bool.{Bool, true, false}
 use mathlib.Core.List.{List, _∷_, _++_}

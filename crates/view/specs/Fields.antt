@@ -1,5 +1,5 @@
--- The fields of a frame, each as the place where it begins and its bytes, from LoRaWAN 1.0 sections 4.3, 4.4 and 6.2.4 and document 01 "Reading". A field
--- that a frame of its kind does not have is empty, and so is every field of a refused frame.
+-- The fields of a frame, each as the place where it begins and its bytes, from LoRaWAN 1.0 sections 4.3, 4.4 and 6.2.4 and
+-- document 01 "Reading". A field that a frame of its kind does not have is empty, and so is every field of a refused frame.
 -- Assumes nothing.
 use mathlib.Core.List.{List, []}
 use Prim.Native.Nat.{ℕ, _-_, _%_}
