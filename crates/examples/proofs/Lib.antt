@@ -1,2 +1,3 @@
+pub mod ByList
 pub mod Fips197
 pub mod Rfc4493

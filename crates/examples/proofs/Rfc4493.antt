@@ -4,25 +4,27 @@
 use mathlib.Core.Path.{_≡_, refl, ap, _∙_}
 use mathlib.Core.List.{List, []}
 use Prim.Native.Nat.{ℕ}
+use native.Mathlib.Omega.{arith}
 use Rattle.base.specs.Bytes.{xorL}
-use Rattle.field.specs.Field.{xtime, mulBits, mul, squares, inverse, fromBits, affine, sub}
-use Rattle.aes.specs.Fips197.{row, subBytes, shiftRows, mixColumns, addRoundKey, round, rounds, cipher, keyExpansion}
+use Rattle.field.specs.Field.{xtime, mulBits, mul, fromBits, affine}
+use Rattle.aes.specs.Fips197.{row, shiftRows, mixColumns, addRoundKey, cipher, keyExpansion}
 use Rattle.cmac.specs.Rfc4493.{zeros, shifted, doubled, subkey1, subkey2, chain, ahead, padded, lastBlock, closed, tag, mac}
 use Rattle.examples.specs.Fips197.{key-B, schedule-A1}
 use Rattle.examples.specs.Rfc4493.{l, k1, k2, tag-1, message-2, tag-2}
-use Rattle.examples.proofs.Fips197.{expansion-A1}
+use Rattle.examples.proofs.ByList.{subListed, roundsListed, cipherListed, by-list}
+use Rattle.examples.proofs.Fips197.{expansion-A1, bytes-A1}
 
 -- ---- subkey generation
 
 enciphered-zero : cipher schedule-A1 zeros ≡ l
-unfolding xtime mulBits mul squares inverse fromBits affine sub row subBytes shiftRows mixColumns addRoundKey round rounds cipher
-enciphered-zero = refl
+unfolding xtime mulBits mul fromBits affine row subListed shiftRows mixColumns addRoundKey roundsListed cipherListed
+enciphered-zero = by-list schedule-A1 zeros bytes-A1 (omega arith) refl
 
 first : subkey1 schedule-A1 ≡ k1
 unfolding xorL shifted doubled subkey1
 first = ap doubled enciphered-zero
 
-second : subkey2 schedule-A1 ≡ k2
+pub second : subkey2 schedule-A1 ≡ k2
 unfolding xorL shifted doubled subkey2
 second = ap doubled first
 
@@ -35,8 +37,8 @@ second-subkey = ap subkey2 expansion-A1 ∙ second
 -- ---- example 1: the empty message, one short block
 
 closed-1 : cipher schedule-A1 (xorL zeros (xorL (padded []) k2)) ≡ tag-1
-unfolding xtime mulBits mul squares inverse fromBits affine sub row subBytes shiftRows mixColumns addRoundKey round rounds cipher xorL padded
-closed-1 = refl
+unfolding xtime mulBits mul fromBits affine row subListed shiftRows mixColumns addRoundKey roundsListed cipherListed xorL padded
+closed-1 = by-list schedule-A1 (xorL zeros (xorL (padded []) k2)) bytes-A1 (omega arith) refl
 
 pub example-1 : mac key-B [] ≡ tag-1
 unfolding chain ahead lastBlock closed tag mac
@@ -48,8 +50,8 @@ example-1 =
 -- ---- example 2: sixteen bytes, one full block
 
 closed-2 : cipher schedule-A1 (xorL zeros (xorL message-2 k1)) ≡ tag-2
-unfolding xtime mulBits mul squares inverse fromBits affine sub row subBytes shiftRows mixColumns addRoundKey round rounds cipher xorL
-closed-2 = refl
+unfolding xtime mulBits mul fromBits affine row subListed shiftRows mixColumns addRoundKey roundsListed cipherListed xorL
+closed-2 = by-list schedule-A1 (xorL zeros (xorL message-2 k1)) bytes-A1 (omega arith) refl
 
 pub example-2 : mac key-B message-2 ≡ tag-2
 unfolding chain ahead lastBlock closed tag mac
