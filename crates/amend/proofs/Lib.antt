@@ -1,12 +1,4 @@
-pub mod Accepted
-pub mod Carrying
 pub mod Chains
-pub mod Demand3
-pub mod Kept
-pub mod ListLaws
-pub mod OneByte
 pub mod OpeningLaws
-pub mod Sealed
 pub mod Stores
-pub mod WholeList
 pub mod Within

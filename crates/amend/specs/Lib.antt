@@ -1,3 +1,2 @@
 pub mod Amending
-pub mod Listed
 pub mod Opening

@@ -9,7 +9,6 @@ ghost use Rattle.frame.specs.Layout.{fport, payloadStart, micOf};
 ghost use Rattle.amend.specs.Amending.{mask, lastBlock, chained, signedFrom, carried, resigned, amendedTo, amendOf};
 ghost use Rattle.secure.specs.Security.{covered, message};
 ghost use Rattle.amend.specs.Opening.{chainsOf, openedOf, nothing, refusedOpening, openChecked, openOf};
-ghost use Rattle.amend.specs.Listed.{amendAll, amendFrameOf, amendedFrame};
 use frame::parser::Reading;
 
 // The numbers of the refusals that opening and amending give beside those of reading.
@@ -43,12 +42,6 @@ pub struct Amended {
     pub number: u8,
     pub place: usize,
     pub state: Open,
-}
-
-// What a call on a lent frame gives: 0, or a refusal by its number and place.
-pub struct Outcome {
-    pub number: u8,
-    pub place: usize,
 }
 
 // The chain values at the places after `from`, up to `to`, each from the one before it and the frame's block there.
@@ -302,61 +295,4 @@ pub fn open_frame(frame: &[u8], nwk_skey: [u8; 16], app_skey: [u8; 16], counter:
         return open_checked(frame, nwk_skey, app_skey, counter);
     }
     refused(COUNTER_MISMATCH, 0)
-}
-
-// Applies a list of amendments, each a number offset * 256 + value, up to the first that is refused.
-fn amend_all(start: Open, amendments: &[u32]) -> Amended
-    ensures { λ r. ⌜ r ≡ amendAll start (now (amendments .entry)) ⌝ }
-{
-    let mut state = start;
-    let mut i: usize = 0;
-    while i < amendments.len() {
-        let a = amendments[i];
-        let next = state.amend((a / 256) as usize, (a % 256) as u8);
-        if next.number == 0 {
-            let after = next.state;
-            state = after;
-            i += 1;
-        } else {
-            return next;
-        }
-    }
-    Amended {
-        number: 0,
-        place: 0,
-        state,
-    }
-}
-
-// For callers that hold bytes: opens the frame, applies the whole list in order and leaves the amended frame where it
-// was. An amendment is offset * 256 + value. Where the opening or any amendment is refused, no byte changes.
-pub fn amend_frame(
-    frame: &mut [u8],
-    nwk_skey: [u8; 16],
-    app_skey: [u8; 16],
-    counter: u32,
-    amendments: &[u32],
-) -> Outcome
-    ensures { λ r. ⌜ r ≡ amendFrameOf (now (frame .entry)) «nwk_skey» «app_skey» counter (now (amendments .entry)) ⌝ }
-    ensures { λ _. ⌜ now (frame .exit) ≡ amendedFrame (now (frame .entry)) «nwk_skey» «app_skey» counter (now (amendments .entry)) ⌝ }
-{
-    let opening = open_frame(frame, nwk_skey, app_skey, counter);
-    if opening.number != 0 {
-        return Outcome {
-            number: opening.number,
-            place: opening.place,
-        };
-    }
-    let state = opening.state;
-    let last = amend_all(state, amendments);
-    if last.number == 0 {
-        let after = last.state;
-        let held = after.frame;
-        let n = frame.len();
-        pieces::put(frame, 0, &held[..n]);
-    }
-    Outcome {
-        number: last.number,
-        place: last.place,
-    }
 }

@@ -7,7 +7,7 @@ use Prim.Native.Nat.{ℕ, _+_, _*_, _%_}
 use lib.Dec.{ltb, eqb}
 use lib.ListN.{length}
 use Rattle.base.specs.Bytes.{pick}
-use Rattle.amend.specs.declared.Outcome.{Outcome}
+use Rattle.amend_list.specs.declared.Outcome.{Outcome}
 use Rattle.build.specs.Frames.{builtOf, outOf}
 use Rattle.build.specs.declared.creator.Built.{Built}
 use Rattle.build.specs.declared.creator.Built.the-variants.{Frame, Refused as RefusedBuilding}

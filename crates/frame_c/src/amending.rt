@@ -1,6 +1,6 @@
 // Amendments.
 ghost use mathlib.Core.Path.{_≡_};
-ghost use Rattle.amend.specs.Listed.{amendFrameOf, amendedFrame};
+ghost use Rattle.amend_list.specs.Listed.{amendFrameOf, amendedFrame};
 ghost use Rattle.frame_c.specs.Answers.{outcomeAnswer};
 use crate::answers::answer;
 
@@ -24,6 +24,6 @@ pub extern "C" fn zinovoky_amend(
 {
     let nwk = *nwk_skey;
     let app = *app_skey;
-    let outcome = amend::amend_frame(frame, nwk, app, counter, amendments);
+    let outcome = amend_list::amend_frame(frame, nwk, app, counter, amendments);
     answer(outcome.number, outcome.place)
 }

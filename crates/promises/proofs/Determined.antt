@@ -72,7 +72,7 @@ use Rattle.build.proofs.creator.can_piggyback.Reads as build-can-piggyback
 use Rattle.build_join.proofs.creator.build_join_accept.Reads as join-build-join-accept
 use Rattle.build_join.proofs.creator.build_join_request.Reads as join-build-join-request
 use Rattle.amend.proofs.Open.amend.Reads as amend-amend
-use Rattle.amend.proofs.amend_frame.Reads as amend-amend-frame
+use Rattle.amend_list.proofs.amend_frame.Reads as amend-amend-frame
 use Rattle.amend.proofs.open_frame.Reads as amend-open-frame
 use Rattle.frame_c.proofs.amending.zinovoky_amend.Reads as c-amend
 use Rattle.frame_c.proofs.building.zinovoky_build_data.Reads as c-build-data

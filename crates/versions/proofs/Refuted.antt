@@ -22,13 +22,13 @@ use Rattle.build.specs.declared.creator.Built.the-variants.{Frame, Refused}
 use Rattle.build.specs.declared.creator.DataParts.{DataParts}
 use Rattle.build.proofs.BuiltLaws.{frame-long}
 use Rattle.amend.specs.Amending.{amendOf}
-use Rattle.amend.specs.Listed.{Amendment, amendedBy, payloadBy}
+use Rattle.amend_list.specs.Listed.{Amendment, amendedBy, payloadBy}
 use Rattle.amend.specs.Opening.{held, openedOf, openOf}
 use Rattle.amend.specs.declared.Open.{Open}
 use Rattle.amend.specs.declared.Opened.{Opened}
-use Rattle.amend.proofs.Accepted.{accepted-opens}
-use Rattle.amend.proofs.Demand3.{Stands, state-after}
-use Rattle.amend.proofs.Sealed.{sealed-header, sealed-clear, sealed-accepted}
+use Rattle.amend_list.proofs.Accepted.{accepted-opens}
+use Rattle.amend_list.proofs.Demand3.{Stands, state-after}
+use Rattle.amend_list.proofs.Sealed.{sealed-header, sealed-clear, sealed-accepted}
 use Rattle.examples.specs.Fips197.{key-B}
 use Rattle.versions.specs.Versions.{Reads, RefusesEach, SameForAll, Builder, BuildsData, Reports, Amends, untouched, stored, storesOnly, signsFirst, ConstantMic}
 use Rattle.versions.proofs.TwoFrames.{template, frameOf, frame-of-1, frame-of-2}

@@ -14,10 +14,10 @@ use Rattle.build.specs.declared.creator.Built.{Built}
 use Rattle.build.specs.declared.creator.Built.the-variants.{Frame}
 use Rattle.build.specs.declared.creator.DataParts.{DataParts}
 use Rattle.amend.specs.Amending.{state, encryptedByte, amendOf}
-use Rattle.amend.specs.Listed.{Amendment}
+use Rattle.amend_list.specs.Listed.{Amendment}
 use Rattle.amend.specs.Opening.{openOf}
 use Rattle.amend.specs.declared.Open.{Open}
-use Rattle.amend.proofs.Demand3.{Stands}
+use Rattle.amend_list.proofs.Demand3.{Stands}
 
 -- ---- readers
 

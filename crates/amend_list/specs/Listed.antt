@@ -9,11 +9,11 @@ use Rattle.base.specs.Bytes.{pick}
 use Rattle.frame.specs.Layout.{header, payload}
 use Rattle.secure.specs.Sealing.{payloadKey}
 use Rattle.secure.specs.Security.{crypted}
 use Rattle.amend.specs.declared.Open.{Open}
 use Rattle.amend.specs.declared.Amended.{Amended}
-use Rattle.amend.specs.declared.Outcome.{Outcome}
+use Rattle.amend_list.specs.declared.Outcome.{Outcome}
 use Rattle.amend.specs.Amending.{amendOf}
 use Rattle.amend.specs.Opening.{openOf}
 
 -- an amendment: a payload offset and the clear value there
 pub record Amendment : Type 0 where

@@ -15,16 +15,16 @@ use Rattle.base.specs.Bytes.{pick, at}
 use Rattle.base.proofs.Cases.{by-order}
 use Rattle.frame.specs.Layout.{header, payload}
 use Rattle.secure.specs.Sealing.{sealed}
 use Rattle.amend.specs.declared.Open.{Open}
 use Rattle.amend.specs.declared.Opened.{Opened}
 use Rattle.amend.specs.declared.Amended.{Amended}
 use Rattle.amend.specs.Amending.{payloadLength, amendOf}
 use Rattle.amend.specs.Opening.{openedOf, acceptedOpening, openOf}
-use Rattle.amend.specs.Listed.{Amendment, amendedBy, payloadBy, clearOf}
-use Rattle.amend.proofs.Accepted.{Accepted, accepted-opens, opens-accepted}
-use Rattle.amend.proofs.OneByte.{held-take, payload-count, again, amended-opened}
-use Rattle.amend.proofs.Sealed.{clear-long, accepted-sealed, sealed-long, sealed-header, sealed-clear, sealed-accepted}
+use Rattle.amend_list.specs.Listed.{Amendment, amendedBy, payloadBy, clearOf}
+use Rattle.amend_list.proofs.Accepted.{Accepted, accepted-opens, opens-accepted}
+use Rattle.amend_list.proofs.OneByte.{held-take, payload-count, again, amended-opened}
+use Rattle.amend_list.proofs.Sealed.{clear-long, accepted-sealed, sealed-long, sealed-header, sealed-clear, sealed-accepted}
 use Rattle.amend.proofs.Within.{amend-inside, amend-outside}
 
 -- ---- the payload after a list
 

@@ -11,14 +11,14 @@ use lib.ListN.{length, take, drop, drop-of-length-le}
 use lib.Seq.{sets, sets-eq, drop-cons}
 use borrow.Author.Tests.{eq-eqb, ne-eqb}
 use Rattle.base.specs.Bytes.{pick, at}
 use Rattle.amend.specs.declared.Open.{Open}
 use Rattle.amend.specs.declared.Opened.{Opened}
 use Rattle.amend.specs.declared.Amended.{Amended}
-use Rattle.amend.specs.declared.Outcome.{Outcome}
+use Rattle.amend_list.specs.declared.Outcome.{Outcome}
 use Rattle.amend.specs.Amending.{amendOf}
 use Rattle.amend.specs.Opening.{openOf}
-use Rattle.amend.specs.Listed.{amendAll, amendFrameOf, amendedFrame}
-use Rattle.amend.proofs.Accepted.{opens-accepted}
+use Rattle.amend_list.specs.Listed.{amendAll, amendFrameOf, amendedFrame}
+use Rattle.amend_list.proofs.Accepted.{opens-accepted}
 
 -- ---- the loop
 

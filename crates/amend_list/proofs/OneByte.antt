@@ -18,13 +18,13 @@ use Rattle.secure.specs.Sealing.{payloadKey, sealed}
 use Rattle.secure.specs.Security.{blockNumber, streamAt, covered, message, dataMic}
 use Rattle.frame.proofs.LayoutLaws.{placed, length-header, length-payload}
 use Rattle.secure.proofs.SecurityLaws.{helperBlock-same, crypted-twice, crypted-set}
 use Rattle.amend.specs.Amending.{state, mask, encryptedByte, payloadLength, lastBlock, carried, resigned, amendedTo}
 use Rattle.amend.specs.Opening.{held, chainsOf, openedOf}
-use Rattle.amend.specs.Listed.{clearOf}
-use Rattle.amend.proofs.Accepted.{Accepted}
-use Rattle.amend.proofs.Carrying.{carried-message, resigned-message}
-use Rattle.amend.proofs.Sealed.{covered-parts, clear-long, sealed-long, sealed-covered, sealed-accepted}
+use Rattle.amend_list.specs.Listed.{clearOf}
+use Rattle.amend_list.proofs.Accepted.{Accepted}
+use Rattle.amend_list.proofs.Carrying.{carried-message, resigned-message}
+use Rattle.amend_list.proofs.Sealed.{covered-parts, clear-long, sealed-long, sealed-covered, sealed-accepted}
 use Rattle.amend.proofs.Within.{length-within, amended-is}
 
 -- a byte changed behind a front
 set-behind : (s t : List ℕ) (k v : ℕ) → set (s ++ t) (length s + k) v ≡ s ++ set t k v

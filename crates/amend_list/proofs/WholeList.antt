@@ -12,14 +12,14 @@ use Rattle.base.specs.Bytes.{pick}
 use Rattle.base.proofs.Cases.{by-equal}
 use Rattle.frame.specs.Layout.{header}
 use Rattle.secure.specs.Sealing.{sealed}
 use Rattle.amend.specs.declared.Open.{Open}
 use Rattle.amend.specs.declared.Opened.{Opened}
 use Rattle.amend.specs.declared.Amended.{Amended}
-use Rattle.amend.specs.declared.Outcome.{Outcome}
+use Rattle.amend_list.specs.declared.Outcome.{Outcome}
 use Rattle.amend.specs.Amending.{amendOf}
 use Rattle.amend.specs.Opening.{openOf}
-use Rattle.amend.specs.Listed.{amendedBy, payloadBy, clearOf, decodedAll, amendAll, amendFrameOf, amendedFrame}
-use Rattle.amend.proofs.Demand3.{demand-3}
+use Rattle.amend_list.specs.Listed.{amendedBy, payloadBy, clearOf, decodedAll, amendAll, amendFrameOf, amendedFrame}
+use Rattle.amend_list.proofs.Demand3.{demand-3}
 
 -- a test that two numbers decide
 passed : {A : Type 0} (x y : A) (n : ℕ) → n ≡ 0 → pick (eqb n 0) x y ≡ x

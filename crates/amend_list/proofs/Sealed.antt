@@ -14,8 +14,8 @@ use Rattle.secure.specs.Sealing.{payloadKey, enciphered, sealed}
 use Rattle.secure.specs.Security.{crypted, covered, dataMic}
 use Rattle.frame.proofs.LayoutLaws.{placed, parts, length-header, length-payload}
 use Rattle.secure.proofs.SecurityLaws.{crypted-long, crypted-twice, dataMic-long}
-use Rattle.amend.specs.Listed.{clearOf}
-use Rattle.amend.proofs.Accepted.{Accepted}
+use Rattle.amend_list.specs.Listed.{clearOf}
+use Rattle.amend_list.proofs.Accepted.{Accepted}
 
 -- header and payload are what the MIC covers
 pub covered-parts : (f : List ℕ) → IsData f → header f ++ payload f ≡ covered f

@@ -16,13 +16,13 @@ use Rattle.secure.specs.Sealing.{payloadKey}
 use Rattle.secure.specs.Security.{streamAt}
 use Rattle.frame.proofs.LayoutLaws.{placed, length-payload}
 use Rattle.secure.proofs.SecurityLaws.{crypted-at, crypted-long, crypted-twice}
 use Rattle.amend.specs.declared.Open.{Open}
 use Rattle.amend.specs.Opening.{openedOf, openOf}
-use Rattle.amend.specs.Listed.{Amendment, amendedBy, payloadBy, clearOf}
-use Rattle.amend.proofs.Accepted.{Accepted, opens-accepted}
-use Rattle.amend.proofs.OneByte.{held-at}
-use Rattle.amend.proofs.Sealed.{clear-long, sealed-long, sealed-at, sealed-payload, sealed-end}
-use Rattle.amend.proofs.Demand3.{one-long, one-inside, one-outside, after, after-accepted, payload-same, state-after}
+use Rattle.amend_list.specs.Listed.{Amendment, amendedBy, payloadBy, clearOf}
+use Rattle.amend_list.proofs.Accepted.{Accepted, opens-accepted}
+use Rattle.amend_list.proofs.OneByte.{held-at}
+use Rattle.amend_list.proofs.Sealed.{clear-long, sealed-long, sealed-at, sealed-payload, sealed-end}
+use Rattle.amend_list.proofs.Demand3.{one-long, one-inside, one-outside, after, after-accepted, payload-same, state-after}
 
 -- no amendment of the list that is accepted, with n bytes of payload, names byte j of it
 abbrev pub Unnamed : ℕ → ℕ → List Amendment → Type 0

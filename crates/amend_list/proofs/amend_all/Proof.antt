@@ -4,10 +4,10 @@ use mathlib.Core.Path.{_≡_, refl, _∙_}
 use native.Mathlib.Omega.{arith}
 use borrow.Author.Needs.{needs}
 use lib.ListN.{length, drop}
-use Rattle.amend.specs.Listed.{amendAll}
-use Rattle.amend.proofs.ListLaws.{goes-on, ends-refused, ends-whole}
-use Rattle.amend.proofs.amend_all.Statement.{statement}
-use Rattle.amend.proofs.amend_all.Tie as tie
+use Rattle.amend_list.specs.Listed.{amendAll}
+use Rattle.amend_list.proofs.ListLaws.{goes-on, ends-refused, ends-whole}
+use Rattle.amend_list.proofs.amend_all.Statement.{statement}
+use Rattle.amend_list.proofs.amend_all.Tie as tie
 
 abbrev Inv-loop : tie.InvT-loop
 Inv-loop amendments state₀ i₀ state i =
