@@ -88,7 +88,7 @@ use Rattle.frame_c.proofs.opening.zinovoky_join_request_mic.Reads as c-join-req
 use Rattle.frame_c.proofs.opening.zinovoky_session_keys.Reads as c-session-keys
 use Rattle.frame_c.proofs.reading.zinovoky_read.Reads as c-read
 use Rattle.text.proofs.describe.Reads as text-describe
-use Rattle.view.proofs.parts.place_of.Reads as view-place-of
+use Rattle.parts.proofs.place_of.Reads as parts-place-of
 
 -- an answer and a frame that were promised as one
 both : (x y : Result) → x ≡ y → (x .answer ≡ y .answer) × (x .bytes ≡ y .bytes)
@@ -370,7 +370,7 @@ c-build-data-determined κs a x y s t p q = (p .answer ∙ sym (q .answer), p .o
 pub text-describe-determined : DeterminedLent (λ κs s. now (s .1 .0)) text-describe.Learnt
 text-describe-determined κs a x y s t p q = (p .0 ∙ sym (q .0), p .1 ∙ sym (q .1))
 
--- ---- view, on numbers
+-- ---- parts, on numbers
 
-pub view-place-of-determined : Determined view-place-of.Learnt
-view-place-of-determined κs a x y s t p q = p ∙ sym q
+pub parts-place-of-determined : Determined parts-place-of.Learnt
+parts-place-of-determined κs a x y s t p q = p ∙ sym q

@@ -2,7 +2,7 @@
 // no part of a frame of that type, is shown as the empty part.
 use numbers::Values;
 ghost use mathlib.Core.Path.{_≡_};
-ghost use Rattle.view.specs.Parts.{joinPlace, dataPlace, placeOf, pieceOf, shownOf, seen, within};
+ghost use Rattle.parts.specs.Parts.{joinPlace, dataPlace, placeOf, pieceOf, shownOf, seen, within};
 
 // The parts that a view shows: those of a data frame (4.3), those of a join-request (6.2.4), and the MIC of both (4.4).
 pub enum Field {

@@ -1,10 +1,10 @@
--- `view::parts::place_of` meets its contract: its tests are those by which the definition picks.
+-- `parts::place_of` meets its contract: its tests are those by which the definition picks.
 -- Assumes nothing.
 use borrow.Author.Needs.{needs}
 use borrow.Author.Tests.{eq-eqb, ne-eqb}
-use Rattle.view.specs.Parts.{placeOf}
-use Rattle.view.proofs.parts.place_of.Statement.{statement}
-use Rattle.view.proofs.parts.place_of.Tie as tie
+use Rattle.parts.specs.Parts.{placeOf}
+use Rattle.parts.proofs.place_of.Statement.{statement}
+use Rattle.parts.proofs.place_of.Tie as tie
 
 returns : tie.Need-returns
 unfolding placeOf

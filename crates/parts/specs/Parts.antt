@@ -8,9 +8,9 @@ use lib.ListN.{length}
 use denote.Ref.{RefT}
 use Rattle.base.specs.Bytes.{pick, part}
 use Rattle.numbers.specs.declared.Values.{Values}
-use Rattle.view.specs.declared.parts.Field.{Field}
-use Rattle.view.specs.declared.parts.Field.the-variants.{DevAddr, FOpts, Payload, AppEui, DevEui, DevNonce, Mic}
-use Rattle.view.specs.declared.parts.Place.{Place}
+use Rattle.parts.specs.declared.Field.{Field}
+use Rattle.parts.specs.declared.Field.the-variants.{DevAddr, FOpts, Payload, AppEui, DevEui, DevNonce, Mic}
+use Rattle.parts.specs.declared.Place.{Place}
 
 -- from the first place up to the second
 abbrev pub between : ℕ → ℕ → Place

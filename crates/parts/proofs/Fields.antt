@@ -22,11 +22,11 @@ use Rattle.frame.specs.declared.parser.DataFrame.{DataFrame}
 use Rattle.frame.specs.declared.parser.Reading.{Reading}
 use Rattle.frame.specs.declared.parser.Reading.the-variants.{JoinRequest, JoinAccept, Data, Refused}
 use Rattle.frame.proofs.ReadingLaws.{Says, answers}
-use Rattle.view.specs.Numbers.{noPayload, layoutValues}
-use Rattle.view.specs.Parts.{dataPlace, placeOf, pieceOf, shownOf}
-use Rattle.view.specs.Fields.{noField, dataField, joinField, fieldIn, fieldOf}
-use Rattle.view.specs.declared.parts.Field.{Field}
-use Rattle.view.specs.declared.parts.Field.the-variants.{DevAddr, FOpts, Payload, AppEui, DevEui, DevNonce, Mic}
+use Rattle.parts.specs.Numbers.{noPayload, layoutValues}
+use Rattle.parts.specs.Parts.{dataPlace, placeOf, pieceOf, shownOf}
+use Rattle.parts.specs.Fields.{noField, dataField, joinField, fieldIn, fieldOf}
+use Rattle.parts.specs.declared.Field.{Field}
+use Rattle.parts.specs.declared.Field.the-variants.{DevAddr, FOpts, Payload, AppEui, DevEui, DevNonce, Mic}
 
 -- ---- a piece
 

@@ -1,10 +1,10 @@
--- `view::parts::piece` meets its contract: its two tests are those by which the definition picks.
+-- `parts::piece` meets its contract: its two tests are those by which the definition picks.
 -- Assumes nothing.
 use borrow.Author.Needs.{needs}
 use borrow.Author.Tests.{lt-ltb, le-ltb}
-use Rattle.view.specs.Parts.{pieceOf}
-use Rattle.view.proofs.parts.piece.Statement.{statement}
-use Rattle.view.proofs.parts.piece.Tie as tie
+use Rattle.parts.specs.Parts.{pieceOf}
+use Rattle.parts.proofs.piece.Statement.{statement}
+use Rattle.parts.proofs.piece.Tie as tie
 
 returns : tie.Need-returns
 unfolding pieceOf
