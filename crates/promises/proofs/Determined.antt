@@ -62,9 +62,9 @@ use Rattle.secure.proofs.securityhelpers.encrypt_frm_data_payload.Reads as secu
 use Rattle.payload.proofs.join_request_mic.Reads as payload-join-request-mic
 use Rattle.payload.proofs.join_accept_mic.Reads as payload-join-accept-mic
 use Rattle.payload.proofs.data_mic.Reads as payload-data-mic
-use Rattle.payload.proofs.session_keys.Reads as payload-session-keys
 use Rattle.payload.proofs.decrypt_data.Reads as payload-decrypt-data
-use Rattle.payload.proofs.decrypt_join_accept.Reads as payload-decrypt-join-accept
+use Rattle.join_accept.proofs.session_keys.Reads as session-keys
+use Rattle.join_accept.proofs.decrypt_join_accept.Reads as decrypt-join-accept
 use Rattle.default_crypto.proofs.decrypt_data_checked.Reads as checked-decrypt-data-checked
 use Rattle.default_crypto.proofs.decrypt_join_accept_checked.Reads as checked-decrypt-join-accept-checked
 use Rattle.build.proofs.creator.build_data.Reads as build-build-data
@@ -280,14 +280,16 @@ payload-join-accept-mic-determined κs a x y s t p q = p ∙ sym q
 pub payload-data-mic-determined : Determined payload-data-mic.Learnt
 payload-data-mic-determined κs a x y s t p q = p ∙ sym q
 
-pub payload-session-keys-determined : Determined payload-session-keys.Learnt
-payload-session-keys-determined κs a x y s t p q = p ∙ sym q
-
 pub payload-decrypt-data-determined : DeterminedLent (λ κs s. now (s .0)) payload-decrypt-data.Learnt
 payload-decrypt-data-determined κs a x y s t p q = both _ _ (p ∙ sym q)
 
-pub payload-decrypt-join-accept-determined : DeterminedLent (λ κs s. now (s .0)) payload-decrypt-join-accept.Learnt
-payload-decrypt-join-accept-determined κs a x y s t p q = both _ _ (p ∙ sym q)
+-- ---- join_accept
+
+pub session-keys-determined : Determined session-keys.Learnt
+session-keys-determined κs a x y s t p q = p ∙ sym q
+
+pub decrypt-join-accept-determined : DeterminedLent (λ κs s. now (s .0)) decrypt-join-accept.Learnt
+decrypt-join-accept-determined κs a x y s t p q = both _ _ (p ∙ sym q)
 
 -- ---- default_crypto
 

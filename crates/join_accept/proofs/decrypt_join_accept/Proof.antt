@@ -1,25 +1,25 @@
 -- `decrypt_join_accept` decrypts where the reading is a join-accept, and refuses by the reading where it is not.
 -- Assumes nothing.
-use mathlib.Core.Path.{sym, ap, _∙_}
+use mathlib.Core.Path.{sym, ap, ap₂, _∙_}
+use Prim.Native.Nat.{ℕ}
 use native.Mathlib.Omega.{arith}
-use Rattle.payload.specs.JoinAccept.{acceptDecrypted}
-use Rattle.payload.specs.Opening.{result, unopened, acceptOpened}
-use Rattle.payload.specs.declared.Opening.{Opening}
+use Rattle.join_accept.specs.JoinAccept.{acceptDecrypted, acceptOpened}
+use Rattle.payload.specs.Opening.{result, unopened}
 use Rattle.payload.specs.declared.Opening.the-variants.{Opened}
 use Rattle.payload.proofs.OpeningLaws.{no-accept, a-accept, accept-length}
 use borrow.Author.Needs.{needs}
-use Rattle.payload.proofs.decrypt_join_accept.Statement.{statement}
-use Rattle.payload.proofs.decrypt_join_accept.Tie as tie
+use Rattle.join_accept.proofs.decrypt_join_accept.Statement.{statement}
+use Rattle.join_accept.proofs.decrypt_join_accept.Tie as tie
 
 returns : tie.Need-returns
 unfolding acceptOpened
 returns c =
-    let r = c .before .before in
+    let r = c .before .before .before in
     let a = r .before .before .before .args in
     let f = a .frame .now in
-    ap (λ (o : Opening). result o f) (c .no-opening .ensures)
+    ap₂ (λ (n p : ℕ). unopened f n p) (c .before .other-number .ensures) (c .place-of .ensures)
     ∙ no-accept (unopened f) f (r .read .result) (r .read .ensures) (λ n. result Opened (acceptDecrypted (a .app-key) f))
-    (c .before .match .keys2)
+    (c .before .before .match .keys2)
 
 decrypt-accept-requires : tie.Need-decrypt-accept-requires
 decrypt-accept-requires c κs =
@@ -43,4 +43,4 @@ returns-2 c =
 pub decrypt-join-accept-spec : {M : Type 1} → statement M
 decrypt-join-accept-spec =
     tie.close
-    (tie.spec (λ c κs. search needs) (λ c. search needs) (λ c κs. search needs) (λ c. search needs) returns decrypt-accept-requires (λ c. search needs) returns-2)
+    (tie.spec (λ c κs. search needs) (λ c. search needs) (λ c κs. search needs) (λ c κs. search needs) (λ c. search needs) returns decrypt-accept-requires (λ c. search needs) returns-2)

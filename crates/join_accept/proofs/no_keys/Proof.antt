@@ -2,10 +2,10 @@
 -- Assumes nothing.
 use mathlib.Core.Path.{ap₂}
 use Prim.Native.Nat.{ℕ}
-use Rattle.payload.specs.Opening.{noKeys}
+use Rattle.join_accept.specs.Session.{noKeys}
 use borrow.Author.Needs.{needs}
-use Rattle.payload.proofs.no_keys.Statement.{statement}
-use Rattle.payload.proofs.no_keys.Tie as tie
+use Rattle.join_accept.proofs.no_keys.Statement.{statement}
+use Rattle.join_accept.proofs.no_keys.Tie as tie
 
 returns : tie.Need-returns
 unfolding noKeys

@@ -3,11 +3,11 @@
 -- Assumes nothing.
 use mathlib.Core.Path.{sym, _∙_}
 use native.Mathlib.Omega.{arith}
-use Rattle.payload.specs.Opening.{derivedKeys, noKeys, sessionKeys}
+use Rattle.join_accept.specs.Session.{derivedKeys, noKeys, sessionKeys}
 use Rattle.payload.proofs.OpeningLaws.{no-accept, a-accept, accept-length}
 use borrow.Author.Needs.{needs}
-use Rattle.payload.proofs.session_keys.Statement.{statement}
-use Rattle.payload.proofs.session_keys.Tie as tie
+use Rattle.join_accept.proofs.session_keys.Statement.{statement}
+use Rattle.join_accept.proofs.session_keys.Tie as tie
 
 returns : tie.Need-returns
 unfolding sessionKeys

@@ -1,11 +1,11 @@
 -- `key_block` is its definition, byte for byte.
 -- Assumes nothing.
 use mathlib.Core.Path.{sym}
-use Rattle.payload.specs.Opening.{keyBlock}
-use Rattle.payload.proofs.OpeningLaws.{keyBlock-bytes}
+use Rattle.join_accept.specs.Session.{keyBlock}
+use Rattle.join_accept.proofs.SessionLaws.{keyBlock-bytes}
 use borrow.Author.Needs.{needs}
-use Rattle.payload.proofs.key_block.Statement.{statement}
-use Rattle.payload.proofs.key_block.Tie as tie
+use Rattle.join_accept.proofs.key_block.Statement.{statement}
+use Rattle.join_accept.proofs.key_block.Tie as tie
 
 returns : tie.Need-returns
 unfolding keyBlock

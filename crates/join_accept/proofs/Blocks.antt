@@ -13,7 +13,7 @@ use Rattle.base.specs.Bytes.{at, part, AreBytes}
 use Rattle.base.proofs.Parts.{bytes-take, bytes-drop}
 use Rattle.aes.specs.Fips197.{keyExpansion, cipher, invCipher}
 use Rattle.aes.proofs.Laws.{schedule-byte, invCipher-long, cipher-invCipher}
-use Rattle.payload.specs.JoinAccept.{eachBlock, acceptEncrypted, acceptDecrypted}
+use Rattle.join_accept.specs.JoinAccept.{eachBlock, acceptEncrypted, acceptDecrypted}
 
 -- ---- stores past a first string
 

@@ -7,8 +7,8 @@ use native.Mathlib.Omega.{arith}
 use Rattle.base.specs.Bytes.{at}
 use Rattle.base.proofs.Parts.{part-tab}
 use borrow.Author.Needs.{needs}
-use Rattle.payload.proofs.three_at.Statement.{statement}
-use Rattle.payload.proofs.three_at.Tie as tie
+use Rattle.join_accept.proofs.three_at.Statement.{statement}
+use Rattle.join_accept.proofs.three_at.Tie as tie
 
 returns : tie.Need-returns
 returns c =

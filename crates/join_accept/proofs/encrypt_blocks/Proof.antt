@@ -5,11 +5,11 @@ use native.Mathlib.Omega.{arith}
 use lib.ListN.{length}
 use Rattle.aes.specs.Fips197.{cipher}
 use Rattle.aes.proofs.Laws.{cipher-long}
-use Rattle.payload.proofs.Blocks.{Blocking, start, done}
-use Rattle.payload.proofs.OpeningLaws.{lent-step}
+use Rattle.join_accept.proofs.Blocks.{Blocking, start, done}
+use Rattle.join_accept.proofs.AcceptLaws.{lent-step}
 use borrow.Author.Needs.{needs}
-use Rattle.payload.proofs.encrypt_blocks.Statement.{statement}
-use Rattle.payload.proofs.encrypt_blocks.Tie as tie
+use Rattle.join_accept.proofs.encrypt_blocks.Statement.{statement}
+use Rattle.join_accept.proofs.encrypt_blocks.Tie as tie
 
 abbrev Inv-loop : tie.InvT-loop
 Inv-loop schedule bytes₀ n k₀ bytes k = Blocking (cipher schedule) bytes₀ bytes k

@@ -3,11 +3,11 @@
 use mathlib.Core.Path.{ap₂}
 use mathlib.Core.List.{List}
 use Prim.Native.Nat.{ℕ}
-use Rattle.payload.specs.Opening.{derivedKeys}
-use Rattle.payload.proofs.OpeningLaws.{keysOf, session-key}
+use Rattle.join_accept.specs.Session.{derivedKeys}
+use Rattle.join_accept.proofs.SessionLaws.{keysOf, session-key}
 use borrow.Author.Needs.{needs}
-use Rattle.payload.proofs.derive_keys.Statement.{statement}
-use Rattle.payload.proofs.derive_keys.Tie as tie
+use Rattle.join_accept.proofs.derive_keys.Statement.{statement}
+use Rattle.join_accept.proofs.derive_keys.Tie as tie
 
 returns : tie.Need-returns
 unfolding derivedKeys

@@ -6,8 +6,8 @@ use borrow.Author.Needs.{needs}
 use Rattle.base.specs.Bytes.{at}
 use Rattle.base.proofs.Filling.{Filling, start, step, done}
 use Rattle.base.proofs.Tab.{tab-at}
-use Rattle.payload.proofs.sixteen_of.Statement.{statement}
-use Rattle.payload.proofs.sixteen_of.Tie as tie
+use Rattle.join_accept.proofs.sixteen_of.Statement.{statement}
+use Rattle.join_accept.proofs.sixteen_of.Tie as tie
 
 abbrev Inv-loop : tie.InvT-loop
 Inv-loop bytes block₀ i₀ block i = Filling 16 (at bytes) block i

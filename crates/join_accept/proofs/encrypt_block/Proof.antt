@@ -2,8 +2,8 @@
 -- refused for its result.
 -- Assumes nothing.
 use borrow.Author.Needs.{needs}
-use Rattle.payload.proofs.encrypt_block.Statement.{statement}
-use Rattle.payload.proofs.encrypt_block.Tie as tie
+use Rattle.join_accept.proofs.encrypt_block.Statement.{statement}
+use Rattle.join_accept.proofs.encrypt_block.Tie as tie
 
 pub encrypt-block-spec : {M : Type 1} → statement M
 encrypt-block-spec =

@@ -6,11 +6,11 @@ use Prim.Native.Nat.{ℕ, _-_, _/_}
 use lib.ListN.{length}
 use Rattle.base.specs.Bytes.{part}
 use Rattle.aes.specs.Fips197.{cipher}
-use Rattle.payload.specs.JoinAccept.{eachBlock}
-use Rattle.payload.proofs.OpeningLaws.{lent-from-one}
+use Rattle.join_accept.specs.JoinAccept.{eachBlock}
+use Rattle.join_accept.proofs.AcceptLaws.{lent-from-one}
 use borrow.Author.Needs.{needs}
-use Rattle.payload.proofs.decrypt_accept.Statement.{statement}
-use Rattle.payload.proofs.decrypt_accept.Tie as tie
+use Rattle.join_accept.proofs.decrypt_accept.Statement.{statement}
+use Rattle.join_accept.proofs.decrypt_accept.Tie as tie
 
 returns : tie.Need-returns
 returns c =

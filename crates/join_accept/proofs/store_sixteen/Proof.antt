@@ -6,8 +6,8 @@ use borrow.Author.Needs.{needs}
 use Rattle.base.specs.Bytes.{at}
 use Rattle.base.proofs.Filling.{Filling, start, step, done}
 use Rattle.base.proofs.Tab.{tab-at}
-use Rattle.payload.proofs.store_sixteen.Statement.{statement}
-use Rattle.payload.proofs.store_sixteen.Tie as tie
+use Rattle.join_accept.proofs.store_sixteen.Statement.{statement}
+use Rattle.join_accept.proofs.store_sixteen.Tie as tie
 
 abbrev Inv-loop : tie.InvT-loop
 Inv-loop bytes₀ block i₀ bytes i = Filling 16 (at block) bytes i
