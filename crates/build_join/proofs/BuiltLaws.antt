@@ -11,9 +11,9 @@ use Rattle.base.specs.Bytes.{part}
 use Rattle.base.proofs.Put.{Put, put-front, then}
 use Rattle.aes.specs.Fips197.{keyExpansion, invCipher}
 use Rattle.build_join.specs.Frames.{signed}
-use Rattle.payload.specs.JoinAccept.{eachBlock, acceptEncrypted}
+use Rattle.join_accept.specs.JoinAccept.{eachBlock, acceptEncrypted}
 use Rattle.secure.specs.Security.{joinMic}
-use Rattle.payload.proofs.Blocks.{accept-long}
+use Rattle.join_accept.proofs.Blocks.{accept-long}
 use Rattle.secure.proofs.SecurityLaws.{joinMic-long}
 
 -- ---- signed

@@ -20,7 +20,7 @@ use Rattle.frame.specs.Reading.{readOf}
 use Rattle.joining.specs.Joining.{requestFields, acceptFields, cfListOf, frequenciesOf, masksOf, zeros}
 use Rattle.build_join.specs.Building.{acceptHead, cfListBytes, tooHigh, joinAcceptBody, joinAcceptLength, joinAcceptRefusal, joinRequestBody}
 use Rattle.build_join.specs.Frames.{signed, joinRequest, joinAccept}
-use Rattle.payload.specs.JoinAccept.{acceptDecrypted}
+use Rattle.join_accept.specs.JoinAccept.{acceptDecrypted}
 use Rattle.secure.specs.Security.{joinMic}
 use Rattle.joining.specs.declared.CfList.{CfList}
 use Rattle.joining.specs.declared.CfList.the-variants.{Absent, Frequencies}
@@ -29,7 +29,7 @@ use Rattle.joining.specs.declared.JoinRequestFields.{JoinRequestFields}
 use Rattle.frame.specs.declared.parser.Reading.the-variants.{JoinRequest, JoinAccept}
 use Rattle.build_join.specs.declared.creator.JoinAcceptParts.{JoinAcceptParts}
 use Rattle.build_join.specs.declared.creator.JoinRequestParts.{JoinRequestParts}
-use Rattle.payload.proofs.Blocks.{accept-long, accept-first, accept-undone}
+use Rattle.join_accept.proofs.Blocks.{accept-long, accept-first, accept-undone}
 use Rattle.build_join.proofs.BuiltLaws.{signed-long}
 use Rattle.build_join.proofs.JoinBodies.{request-written, length-request, head-written, body-and-mic, accept-byte, accept-low}
 use Rattle.frame.proofs.ReadingLaws.{reads-request, reads-accept}

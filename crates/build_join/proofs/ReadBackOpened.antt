@@ -11,7 +11,7 @@ use Rattle.numbers.specs.Numbers.{onAccept}
 use Rattle.frame.proofs.ReadingLaws.{request-read}
 use Rattle.payload.specs.Opening.{result, unopened, joinPasses, joinRequestTest}
 use Rattle.default_crypto.specs.Checked.{acceptTested, acceptOpenedChecked}
-use Rattle.payload.specs.JoinAccept.{acceptDecrypted}
+use Rattle.join_accept.specs.JoinAccept.{acceptDecrypted}
 use Rattle.secure.specs.Security.{covered, joinMic}
 use Rattle.payload.specs.declared.MicTest.the-variants.{Passes}
 use Rattle.payload.specs.declared.Opening.the-variants.{Opened}

@@ -3,7 +3,7 @@
 use mathlib.Core.List.{List, _++_}
 use Prim.Native.Nat.{ℕ}
 use Rattle.build_join.specs.Building.{joinAcceptBody, joinRequestBody}
-use Rattle.payload.specs.JoinAccept.{acceptEncrypted}
+use Rattle.join_accept.specs.JoinAccept.{acceptEncrypted}
 use Rattle.secure.specs.Security.{joinMic}
 use Rattle.build_join.specs.declared.creator.JoinAcceptParts.{JoinAcceptParts}
 use Rattle.build_join.specs.declared.creator.JoinRequestParts.{JoinRequestParts}

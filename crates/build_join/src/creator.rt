@@ -12,7 +12,7 @@ ghost use lib.Seq.{sets};
 ghost use Rattle.base.specs.Bytes.{at, part};
 ghost use Rattle.base.proofs.Put.{Put};
 ghost use Rattle.aes.specs.Fips197.{keyExpansion, invCipher};
-ghost use Rattle.payload.specs.JoinAccept.{eachBlock};
+ghost use Rattle.join_accept.specs.JoinAccept.{eachBlock};
 ghost use Rattle.build_join.specs.Building.{acceptHead, cfListBytes, frequencyBytes, joinAcceptBody, joinAcceptLength, joinAcceptRefusal, joinRequestBody, joinRequestRefusal, listByte, tooHigh};
 ghost use Rattle.build.specs.Frames.{Builds};
 ghost use Rattle.build_join.specs.Frames.{joinAccept, joinRequest};

@@ -21,15 +21,14 @@ use Rattle.frame.specs.declared.parser.DataFrame.{DataFrame}
 use Rattle.frame.specs.declared.parser.Reading.{Reading}
 use Rattle.frame.specs.declared.parser.Reading.the-variants.{JoinRequest, JoinAccept, Data, Refused as RefusedReading}
 use Rattle.frame.proofs.ReadingLaws.{reads-accept, accept-read}
-use Rattle.payload.specs.JoinAccept.{acceptDecrypted}
-use Rattle.payload.specs.Opening.{joinPasses, dataPasses, answered, joinAcceptTest, dataTest, testPasses, Result, result, unopened, selected, openedUnder, dataOpened, givenKey, acceptOpened}
+use Rattle.join_accept.specs.JoinAccept.{acceptDecrypted, acceptOpened}
+use Rattle.payload.specs.Opening.{joinPasses, dataPasses, answered, joinAcceptTest, dataTest, testPasses, Result, result, unopened, selected, openedUnder, dataOpened, givenKey}
 use Rattle.payload.specs.declared.MicTest.{MicTest}
 use Rattle.payload.specs.declared.MicTest.the-variants.{Passes, Fails, Refused as RefusedTest}
 use Rattle.payload.specs.declared.Opening.{Opening}
 use Rattle.payload.specs.declared.Opening.the-variants.{Opened}
 use Rattle.payload.proofs.MicTest as T
-use Rattle.payload.proofs.DecryptionLaws.{clear-first}
-use Rattle.payload.proofs.OpeningLaws.{clear-long}
+use Rattle.join_accept.proofs.AcceptLaws.{clear-first, clear-long}
 use Rattle.default_crypto.specs.Checked.{answerOf, openedTested, dataOpenedChecked}
 
 -- ---- a data frame: what opening it after a test gives, by the test and by what opening it without one gives

@@ -8,7 +8,7 @@ use Rattle.numbers.specs.Numbers.{onAccept, onData}
 use Rattle.frame.specs.Reading.{readOf}
 use Rattle.frame.specs.declared.keys.MaybeKey.{MaybeKey}
 use Rattle.frame.specs.declared.parser.FPort.{FPort}
-use Rattle.payload.specs.JoinAccept.{acceptDecrypted}
+use Rattle.join_accept.specs.JoinAccept.{acceptDecrypted}
 use Rattle.payload.specs.Opening.{joinPasses, dataPasses, Result, result, unopened, selected, openedUnder, givenKey}
 use Rattle.payload.specs.declared.MicTest.{MicTest}
 use Rattle.payload.specs.declared.MicTest.the-variants.{Passes, Fails, Refused as RefusedTest}

@@ -19,7 +19,7 @@ use Rattle.frame.specs.Reading.{readOf}
 use Rattle.frame.specs.declared.parser.Reading.{Reading}
 use Rattle.frame.specs.declared.parser.Reading.the-variants.{JoinRequest, JoinAccept, Data, Refused}
 use Rattle.numbers.specs.declared.Values.{Values}
-use Rattle.payload.specs.declared.SessionKeys.{SessionKeys}
+use Rattle.join_accept.specs.declared.SessionKeys.{SessionKeys}
 use Rattle.frame_c.specs.Answers.{answerOf, orShort, Fills}
 use Rattle.frame_c.specs.Fields.{fieldsOf, FieldsInto, ReadInto, KeysInto}
 

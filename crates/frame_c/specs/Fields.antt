@@ -8,7 +8,7 @@ use Rattle.base.specs.Bytes.{pick, at}
 use Rattle.numbers.specs.Numbers.{numberOf, placeOf, valuesOf}
 use Rattle.frame.specs.Reading.{readOf}
 use Rattle.numbers.specs.declared.Values.{Values}
-use Rattle.payload.specs.declared.SessionKeys.{SessionKeys}
+use Rattle.join_accept.specs.declared.SessionKeys.{SessionKeys}
 use Rattle.frame_c.specs.Answers.{orShort, Fills}
 
 -- of the frame's first byte, its length and the values of its reading: the type, FCtrl, FCnt low and high, the place past

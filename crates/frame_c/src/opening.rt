@@ -1,6 +1,8 @@
 // MIC tests, decryption and session keys.
 ghost use mathlib.Core.Path.{_≡_};
-ghost use Rattle.payload.specs.Opening.{joinRequestTest, joinAcceptTest, dataTest, dataOpened, acceptOpened, sessionKeys};
+ghost use Rattle.payload.specs.Opening.{joinRequestTest, joinAcceptTest, dataTest, dataOpened};
+ghost use Rattle.join_accept.specs.JoinAccept.{acceptOpened};
+ghost use Rattle.join_accept.specs.Session.{sessionKeys};
 ghost use Rattle.default_crypto.specs.Checked.{dataOpenedChecked, acceptOpenedChecked};
 ghost use Rattle.frame_c.specs.Answers.{testAnswer, passesOf, openingAnswer};
 ghost use Rattle.frame_c.specs.Fields.{KeysInto};
@@ -10,7 +12,7 @@ use crate::answers::opening_answer;
 use crate::answers::test_answer;
 use crate::storing::or_short;
 use frame::keys::MaybeKey;
-use payload::SessionKeys;
+use join_accept::SessionKeys;
 
 #[no_mangle]
 pub extern "C" fn zinovoky_join_request_mic(
@@ -123,7 +125,7 @@ pub extern "C" fn zinovoky_decrypt_join_accept(frame: &mut [u8], app_key: &[u8; 
     ensures { λ _. ⌜ now (frame .exit) ≡ acceptOpened (now («app_key» .entry)) (now (frame .entry)) .bytes ⌝ }
 {
     let key = *app_key;
-    let opening = payload::decrypt_join_accept(frame, key);
+    let opening = join_accept::decrypt_join_accept(frame, key);
     opening_answer(opening)
 }
 
@@ -168,6 +170,6 @@ pub extern "C" fn zinovoky_session_keys(
 {
     let nonce = *dev_nonce;
     let key = *app_key;
-    let session = payload::session_keys(frame, nonce, key);
+    let session = join_accept::session_keys(frame, nonce, key);
     store_keys(session, keys)
 }

@@ -1,28 +1,22 @@
--- Laws on tests and openings: a MIC test passes exactly if the last four bytes are the MIC of those ahead of them;
--- decrypting a data frame leaves every byte outside the payload, and so the reading, as it was, and done twice gives the
--- frame back; decrypting a join-accept leaves byte 0 and the length.
+-- Laws on tests and openings: a MIC test passes exactly if the last four bytes are the MIC of those ahead of them; decrypting a
+-- data frame leaves every byte outside the payload, and so the reading, as it was, and done twice gives the frame back.
 -- Assumes nothing.
 use mathlib.Core.Path.{_≡_, refl, sym, ap, ap₂, _∙_}
 use mathlib.Core.Bool.{Bool, true, false}
-use mathlib.Core.List.{List, [], _∷_}
-use Prim.Native.Nat.{ℕ, zero, suc, _+_, _-_, _*_, _/_, _%_, _≤_, _<_, min}
-use native.Mathlib.Nat.{not-suc-le-zero}
+use mathlib.Core.List.{List}
+use Prim.Native.Nat.{ℕ, _+_, _-_, _*_, _%_, _≤_, _<_, min}
 use native.Mathlib.Omega.{arith}
 use lib.ListN.{length, take, drop}
 use lib.Seq.{getD-take, getD-drop}
-use Rattle.base.specs.Bytes.{at, part, AreBytes}
+use Rattle.base.specs.Bytes.{at, part}
 use Rattle.base.proofs.Cases.{by-bool, by-order}
 use Rattle.base.proofs.Lent.{part-long, put-before, put-after}
-use Rattle.base.proofs.Parts.{bytes-append, bytes-take, bytes-drop}
-use Rattle.aes.specs.Fips197.{keyExpansion, cipher}
-use Rattle.aes.proofs.Laws.{schedule-byte, cipher-long, cipher-byte}
 use Rattle.cmac.specs.Compared.{sameBytes}
 use Rattle.cmac.proofs.Compared.{same-of-test, test-of-same}
 use Rattle.frame.specs.Conditions.{IsJoinRequest, IsJoinAccept, IsData}
-use Rattle.payload.specs.JoinAccept.{eachBlock, acceptDecrypted}
 use Rattle.frame.specs.Layout.{fcnt, header, headerEnd, payloadEnd, micOf}
 use Rattle.numbers.specs.Numbers.{onRequest, onAccept, onData}
-use Rattle.payload.specs.Opening.{joinPasses, dataPasses, answered, joinRequestTest, joinAcceptTest, dataTest, Result, unopened, selected, decrypted, openedUnder, dataOpened, sessionKey, keyBlock}
+use Rattle.payload.specs.Opening.{joinPasses, dataPasses, answered, joinRequestTest, joinAcceptTest, dataTest, Result, unopened, selected, decrypted, openedUnder, dataOpened}
 use Rattle.frame.specs.Reading.{readOf}
 use Rattle.secure.specs.Security.{crypted, cryptedPart, fullCounter, covered, dataMic, joinMic}
 use Rattle.frame.specs.declared.keys.MaybeKey.{MaybeKey}
@@ -196,32 +190,3 @@ module _ (nwk app : MaybeKey) (counter : ℕ) (f : List ℕ) where
   pub opened-twice : dataOpened nwk app counter (dataOpened nwk app counter f .bytes) .bytes ≡ f
   unfolding open-once
   opened-twice = other-twice (readOf f) refl
-
--- ---- a join-accept
-
-pub clear-first : (key f : List ℕ) → 1 ≤ length f → at (acceptDecrypted key f) 0 ≡ at f 0
-unfolding acceptDecrypted
-clear-first key [] h = absurd (not-suc-le-zero h)
-clear-first key (a ∷ f) h = refl
-
-blocks-byte : (g : List ℕ → List ℕ) → ((s : List ℕ) → AreBytes s → AreBytes (g s)) → (n : ℕ) (s : List ℕ) → AreBytes s
-    → AreBytes (eachBlock g n s)
-unfolding eachBlock
-blocks-byte g byte zero s h = h
-blocks-byte g byte (suc n) s h =
-    bytes-append (g (take 16 s)) (eachBlock g n (drop 16 s)) (byte (take 16 s) (bytes-take 16 s h))
-    (blocks-byte g byte n (drop 16 s) (bytes-drop 16 s h))
-
-pub clear-byte : (key f : List ℕ) → AreBytes key → AreBytes f → AreBytes (acceptDecrypted key f)
-unfolding acceptDecrypted
-clear-byte key f hk hf =
-    let w = keyExpansion key in
-    bytes-append (take 1 f) (eachBlock (cipher w) (length (drop 1 f) / 16) (drop 1 f)) (bytes-take 1 f hf)
-    (blocks-byte (cipher w) (λ s. cipher-byte w s (schedule-byte key hk)) (length (drop 1 f) / 16) (drop 1 f)
-    (bytes-drop 1 f hf))
-
--- ---- session keys
-
-pub sessionKey-long : (first : ℕ) (key nonce f : List ℕ) → length (sessionKey first key nonce f) ≡ 16
-unfolding sessionKey
-sessionKey-long first key nonce f = cipher-long (keyExpansion key) (keyBlock first (part 1 3 f) (part 4 3 f) nonce)

@@ -1,4 +1,3 @@
-pub mod Blocks
 pub mod DecryptionLaws
 pub mod OpenedLaws
 pub mod OpeningLaws

@@ -1,2 +1,1 @@
-pub mod JoinAccept
 pub mod Opening

@@ -1,16 +1,13 @@
--- What testing and opening a frame gives, from LoRaWAN 1.0: the MIC (4.4, 6.2.4, 6.2.5), the payload (4.3.3), a
--- join-accept and its session keys (6.2.5). The refusals come in the order of document 01: reading, 6; what is refused leaves
--- every byte as it was.
+-- What testing and opening a frame gives, from LoRaWAN 1.0: the MIC (4.4, 6.2.4, 6.2.5) and the payload (4.3.3). The refusals
+-- come in the order of document 01: reading, 6; what is refused leaves every byte as it was.
 -- Assumes nothing.
 use mathlib.Core.Bool.{Bool, true, false}
-use mathlib.Core.List.{List, _∷_, _++_}
+use mathlib.Core.List.{List}
 use Prim.Native.Nat.{ℕ}
 use lib.Dec.{eqb}
-use Rattle.base.specs.Bytes.{pick, tab, part}
-use Rattle.aes.specs.Fips197.{keyExpansion, cipher}
+use Rattle.base.specs.Bytes.{pick}
 use Rattle.cmac.specs.Compared.{sameBytes}
 use Rattle.frame.specs.Layout.{fcnt, headerEnd, payloadEnd, micOf}
-use Rattle.payload.specs.JoinAccept.{acceptDecrypted}
 use Rattle.numbers.specs.Numbers.{portNumber, onRequest, onAccept, onData}
 use Rattle.frame.specs.Reading.{readOf}
 use Rattle.secure.specs.Security.{cryptedPart, fullCounter, covered, dataMic, joinMic}
@@ -20,7 +17,6 @@ use Rattle.payload.specs.declared.MicTest.{MicTest}
 use Rattle.payload.specs.declared.MicTest.the-variants.{Passes, Fails, Refused as RefusedTest}
 use Rattle.payload.specs.declared.Opening.{Opening}
 use Rattle.payload.specs.declared.Opening.the-variants.{Opened, Refused}
-use Rattle.payload.specs.declared.SessionKeys.{SessionKeys}
 
 -- ---- 4.4, 6.2.4, 6.2.5 the MIC
 
@@ -102,32 +98,3 @@ dataOpened nwk app counter f =
 
 abbrev pub givenKey : List ℕ → MaybeKey
 givenKey key = record { given = true; key = key }
-
--- ---- 6.2.5 a join-accept
-
-unfoldable pub acceptOpened : List ℕ → List ℕ → Result
-acceptOpened key f = onAccept (λ n. result Opened (acceptDecrypted key f)) (unopened f) (readOf f)
-
--- ---- 6.2.5 session keys: AES under AppKey of 1 (NwkSKey) or 2 (AppSKey), AppNonce, NetID, DevNonce, and zeros
-
-unfoldable pub keyBlock : ℕ → List ℕ → List ℕ → List ℕ → List ℕ
-keyBlock first appNonce netId devNonce = first ∷ (appNonce ++ (netId ++ (devNonce ++ tab 7 (λ i. 0))))
-
-unfoldable pub sessionKey : ℕ → List ℕ → List ℕ → List ℕ → List ℕ
-sessionKey first key devNonce f = cipher (keyExpansion key) (keyBlock first (part 1 3 f) (part 4 3 f) devNonce)
-
-unfoldable pub derivedKeys : List ℕ → List ℕ → List ℕ → SessionKeys
-derivedKeys key devNonce f =
-    record {
-      number = 0;
-      place = 0;
-      «nwk_skey» = sessionKey 1 key devNonce f;
-      «app_skey» = sessionKey 2 key devNonce f;
-    }
-
-unfoldable pub noKeys : ℕ → ℕ → SessionKeys
-noKeys number place =
-    record { number = number; place = place; «nwk_skey» = tab 16 (λ i. 0); «app_skey» = tab 16 (λ i. 0) }
-
-unfoldable pub sessionKeys : List ℕ → List ℕ → List ℕ → SessionKeys
-sessionKeys key devNonce f = onAccept (λ n. derivedKeys key devNonce f) noKeys (readOf f)

@@ -62,9 +62,9 @@ use Rattle.secure.proofs.securityhelpers.encrypt_frm_data_payload.Reads as secu
 use Rattle.payload.proofs.join_request_mic.Reads as payload-join-request-mic
 use Rattle.payload.proofs.join_accept_mic.Reads as payload-join-accept-mic
 use Rattle.payload.proofs.data_mic.Reads as payload-data-mic
-use Rattle.payload.proofs.session_keys.Reads as payload-session-keys
 use Rattle.payload.proofs.decrypt_data.Reads as payload-decrypt-data
-use Rattle.payload.proofs.decrypt_join_accept.Reads as payload-decrypt-join-accept
+use Rattle.join_accept.proofs.session_keys.Reads as session-keys
+use Rattle.join_accept.proofs.decrypt_join_accept.Reads as decrypt-join-accept
 use Rattle.default_crypto.proofs.decrypt_data_checked.Reads as checked-decrypt-data-checked
 use Rattle.default_crypto.proofs.decrypt_join_accept_checked.Reads as checked-decrypt-join-accept-checked
 use Rattle.build.proofs.creator.build_data.Reads as build-build-data
@@ -88,7 +88,7 @@ use Rattle.frame_c.proofs.opening.zinovoky_join_request_mic.Reads as c-join-req
 use Rattle.frame_c.proofs.opening.zinovoky_session_keys.Reads as c-session-keys
 use Rattle.frame_c.proofs.reading.zinovoky_read.Reads as c-read
 use Rattle.text.proofs.describe.Reads as text-describe
-use Rattle.view.proofs.parts.place_of.Reads as view-place-of
+use Rattle.parts.proofs.place_of.Reads as parts-place-of
 
 -- an answer and a frame that were promised as one
 both : (x y : Result) → x ≡ y → (x .answer ≡ y .answer) × (x .bytes ≡ y .bytes)
@@ -280,14 +280,16 @@ payload-join-accept-mic-determined κs a x y s t p q = p ∙ sym q
 pub payload-data-mic-determined : Determined payload-data-mic.Learnt
 payload-data-mic-determined κs a x y s t p q = p ∙ sym q
 
-pub payload-session-keys-determined : Determined payload-session-keys.Learnt
-payload-session-keys-determined κs a x y s t p q = p ∙ sym q
-
 pub payload-decrypt-data-determined : DeterminedLent (λ κs s. now (s .0)) payload-decrypt-data.Learnt
 payload-decrypt-data-determined κs a x y s t p q = both _ _ (p ∙ sym q)
 
-pub payload-decrypt-join-accept-determined : DeterminedLent (λ κs s. now (s .0)) payload-decrypt-join-accept.Learnt
-payload-decrypt-join-accept-determined κs a x y s t p q = both _ _ (p ∙ sym q)
+-- ---- join_accept
+
+pub session-keys-determined : Determined session-keys.Learnt
+session-keys-determined κs a x y s t p q = p ∙ sym q
+
+pub decrypt-join-accept-determined : DeterminedLent (λ κs s. now (s .0)) decrypt-join-accept.Learnt
+decrypt-join-accept-determined κs a x y s t p q = both _ _ (p ∙ sym q)
 
 -- ---- default_crypto
 
@@ -370,7 +372,7 @@ c-build-data-determined κs a x y s t p q = (p .answer ∙ sym (q .answer), p .o
 pub text-describe-determined : DeterminedLent (λ κs s. now (s .1 .0)) text-describe.Learnt
 text-describe-determined κs a x y s t p q = (p .0 ∙ sym (q .0), p .1 ∙ sym (q .1))
 
--- ---- view, on numbers
+-- ---- parts, on numbers
 
-pub view-place-of-determined : Determined view-place-of.Learnt
-view-place-of-determined κs a x y s t p q = p ∙ sym q
+pub parts-place-of-determined : Determined parts-place-of.Learnt
+parts-place-of-determined κs a x y s t p q = p ∙ sym q

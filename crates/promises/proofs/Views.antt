@@ -16,12 +16,12 @@ use contract.Monad.{Fun, fact, factI, fact-use}
 use denote.Ref.{RefT}
 use denote.Triple.Entry.{Args, Res}
 use denote.Triple.Clauses.{Ended, Clauses, AtExit}
-use Rattle.view.specs.Parts.{seen}
+use Rattle.parts.specs.Parts.{seen}
 use Rattle.view.specs.Viewed.{viewOf, partOf}
-use Rattle.view.specs.declared.parts.Field.{Field}
-use Rattle.view.specs.declared.parts.Field.the-variants.{DevAddr, FOpts, Payload, AppEui, DevEui, DevNonce, Mic}
-use Rattle.view.proofs.parts.piece.Reads as piece
-use Rattle.view.proofs.parts.shown.Reads as shown
+use Rattle.parts.specs.declared.Field.{Field}
+use Rattle.parts.specs.declared.Field.the-variants.{DevAddr, FOpts, Payload, AppEui, DevEui, DevNonce, Mic}
+use Rattle.parts.proofs.piece.Reads as piece
+use Rattle.parts.proofs.shown.Reads as shown
 use Rattle.view.proofs.part_of.Reads as part-of
 use Rattle.view.proofs.Accessor.{ended, shows-field}
 use Rattle.view.proofs.View.of as made

@@ -73,7 +73,7 @@ fn decrypt_data_checked(record: &[u8], frame: &mut [u8]) {
 
 fn decrypt_accept(record: &[u8], frame: &mut [u8]) {
     let key = key_at(record, 1);
-    put_opening(payload::decrypt_join_accept(frame, key));
+    put_opening(join_accept::decrypt_join_accept(frame, key));
     put_all(frame);
 }
 
@@ -86,7 +86,7 @@ fn decrypt_accept_checked(record: &[u8], frame: &mut [u8]) {
 fn session_keys(record: &[u8], frame: &[u8]) {
     let key = key_at(record, 1);
     let dev_nonce = two_at(record, 17);
-    let keys = payload::session_keys(frame, dev_nonce, key);
+    let keys = join_accept::session_keys(frame, dev_nonce, key);
     let nwk_skey = keys.nwk_skey;
     let app_skey = keys.app_skey;
     put(keys.number);

@@ -1,3 +1,2 @@
 pub mod Accessor
-pub mod Fields
 pub mod Made

@@ -16,13 +16,13 @@ use Rattle.frame.specs.declared.parser.Reading.{Reading}
 use Rattle.frame.specs.declared.parser.Reading.the-variants.{Refused}
 use Rattle.frame.proofs.ReadingLaws.{reads-request, reads-accept, reads-data}
 use Rattle.numbers.specs.Numbers.{plainValues, valuesOf}
-use Rattle.view.specs.Numbers.{noPayload, layoutValues}
-use Rattle.view.specs.Parts.{within}
-use Rattle.view.specs.Fields.{fopts, noField, dataField, joinField, fieldIn, fieldOf}
+use Rattle.parts.specs.Numbers.{noPayload, layoutValues}
+use Rattle.parts.specs.Parts.{within}
+use Rattle.parts.specs.Fields.{fopts, noField, dataField, joinField, fieldIn, fieldOf}
 use Rattle.view.specs.Viewed.{viewOf, partOf}
-use Rattle.view.specs.declared.parts.Field.{Field}
-use Rattle.view.specs.declared.parts.Field.the-variants.{DevAddr, FOpts, Payload, Mic}
-use Rattle.view.proofs.Fields.{shows, data-values}
+use Rattle.parts.specs.declared.Field.{Field}
+use Rattle.parts.specs.declared.Field.the-variants.{DevAddr, FOpts, Payload, Mic}
+use Rattle.parts.proofs.Fields.{shows, data-values}
 
 -- a part of a view is that field of the frame
 pub shown-field : (x : RefT (List ℕ)) (field : Field) → partOf (viewOf x) field ≡ within x (fieldOf (now x) field)

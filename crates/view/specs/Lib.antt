@@ -1,4 +1,1 @@
-pub mod Numbers
-pub mod Parts
 pub mod Viewed
-pub mod Fields

@@ -1,7 +1,5 @@
 // A view of a frame: the caller's bytes with the place of each field in them. A part that is shown is that part of the
 // caller's own slice; nothing is copied.
-pub mod parts;
-
 use frame::parser::read;
 use numbers::Values;
 use numbers::values_of;
@@ -10,8 +8,8 @@ use parts::shown;
 ghost use mathlib.Core.Path.{_≡_};
 ghost use Rattle.frame.specs.Reading.{readOf};
 ghost use Rattle.numbers.specs.Numbers.{valuesOf};
-ghost use Rattle.view.specs.Fields.{fieldOf};
-ghost use Rattle.view.specs.Parts.{seen, within};
+ghost use Rattle.parts.specs.Fields.{fieldOf};
+ghost use Rattle.parts.specs.Parts.{seen, within};
 ghost use Rattle.view.specs.Viewed.{viewOf, partOf};
 
 pub struct View<'a> {

@@ -5,7 +5,7 @@ use mathlib.Core.Path.{sym, ap, ap₂, _∙_}
 use mathlib.Core.List.{List}
 use Prim.Native.Nat.{ℕ}
 use native.Mathlib.Omega.{arith}
-use Rattle.payload.specs.JoinAccept.{acceptDecrypted}
+use Rattle.join_accept.specs.JoinAccept.{acceptDecrypted}
 use Rattle.payload.specs.Opening.{joinPasses, testPasses, result}
 use Rattle.payload.specs.declared.Opening.{Opening}
 use Rattle.default_crypto.specs.Checked.{answerOf, acceptTested}

@@ -9,8 +9,8 @@ use denote.Ref.{now}
 use lib.ListN.{length}
 use Rattle.aes.specs.Fips197.{invCipher}
 use Rattle.aes.proofs.Laws.{invCipher-long}
-use Rattle.payload.specs.JoinAccept.{eachBlock}
-use Rattle.payload.proofs.Blocks.{Blocking, start, step, done}
+use Rattle.join_accept.specs.JoinAccept.{eachBlock}
+use Rattle.join_accept.proofs.Blocks.{Blocking, start, step, done}
 use Rattle.build_join.proofs.creator.decrypt_blocks.Statement.{statement}
 use Rattle.build_join.proofs.creator.decrypt_blocks.Tie as tie
 

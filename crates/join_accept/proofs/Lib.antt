@@ -1,0 +1,3 @@
+pub mod AcceptLaws
+pub mod Blocks
+pub mod SessionLaws

@@ -1,0 +1,32 @@
+-- Laws on the session keys: the block that is enciphered, byte for byte, a key from what the calls on the way gave, and its length.
+-- Assumes nothing.
+use mathlib.Core.Path.{_≡_, ap, ap₂, _∙_}
+use mathlib.Core.List.{List}
+use Prim.Native.Nat.{ℕ}
+use lib.ListN.{length}
+use Rattle.base.specs.Bytes.{tab, at, part}
+use Rattle.base.proofs.Tab.{tab-at}
+use Rattle.aes.specs.Fips197.{keyExpansion, cipher}
+use Rattle.aes.proofs.Laws.{cipher-long}
+use Rattle.join_accept.specs.Session.{keyBlock, sessionKey}
+use Rattle.join_accept.specs.declared.SessionKeys.{SessionKeys}
+
+pub keyBlock-bytes : (first : ℕ) (a b d : List ℕ) → length a ≡ 3 → length b ≡ 3 → length d ≡ 2
+    → keyBlock first a b d ≡ keyBlock first (tab 3 (at a)) (tab 3 (at b)) (tab 2 (at d))
+keyBlock-bytes first a b d ha hb hd =
+    ap₂ (λ (x y : List ℕ). keyBlock first x y d) (tab-at a 3 ha) (tab-at b 3 hb)
+    ∙ ap (keyBlock first (tab 3 (at a)) (tab 3 (at b))) (tab-at d 2 hd)
+
+-- one of them, from what the calls on the way gave
+pub session-key : (first : ℕ) (key nonce f : List ℕ) {a i w block k : List ℕ} → a ≡ part 1 3 f → i ≡ part 4 3 f
+    → w ≡ keyExpansion key → block ≡ keyBlock first a i nonce → k ≡ cipher w block → k ≡ sessionKey first key nonce f
+unfolding sessionKey
+session-key first key nonce f ha hi hw hb hk =
+    hk ∙ ap₂ (λ (v b : List ℕ). cipher v b) hw (hb ∙ ap₂ (λ (x y : List ℕ). keyBlock first x y nonce) ha hi)
+
+abbrev pub keysOf : List ℕ → List ℕ → SessionKeys
+keysOf nwk app = record { number = 0; place = 0; «nwk_skey» = nwk; «app_skey» = app }
+
+pub sessionKey-long : (first : ℕ) (key nonce f : List ℕ) → length (sessionKey first key nonce f) ≡ 16
+unfolding sessionKey
+sessionKey-long first key nonce f = cipher-long (keyExpansion key) (keyBlock first (part 1 3 f) (part 4 3 f) nonce)

@@ -1,0 +1,2 @@
+pub mod JoinAccept
+pub mod Session
