@@ -10,7 +10,8 @@ use Rattle.build.specs.Building.{dataRefusal}
 use Rattle.build.specs.Frames.{builtOf, outOf, Builds as BuildsFrame}
 use Rattle.build.specs.declared.creator.Built.{Built}
 use Rattle.build.specs.declared.creator.DataParts.{DataParts}
-use Rattle.frame_c.specs.Answers.{answerOf, builtAnswer, Builds}
+use Rattle.layout.specs.Answers.{answerOf, builtAnswer}
+use Rattle.frame_c.specs.Answers.{Builds}
 use Rattle.frame_c.specs.Given.{dataRefused}
 
 -- what was built of equal parts

@@ -1,19 +1,13 @@
--- An opening promises its answer and the bytes together; the functions for C promise the two apart. A MIC test promises one
--- answer, of which the functions for C give the number and the byte.
+-- An opening promises its answer and the bytes together; the functions for C promise the two apart.
 -- Assumes nothing.
 use mathlib.Core.Path.{_≡_, ap, _∙_}
 use mathlib.Core.List.{List}
 use Prim.Native.Nat.{ℕ}
 use Rattle.payload.specs.Opening.{Result, result}
-use Rattle.payload.specs.declared.MicTest.{MicTest}
 use Rattle.payload.specs.declared.Opening.{Opening}
-use Rattle.frame_c.specs.Answers.{openingAnswer, testAnswer, passesOf}
+use Rattle.layout.specs.Answers.{openingAnswer}
 
 pub opened : {o : Opening} {e : List ℕ} {x y : Result} {r : ℕ} → result o e ≡ x → x ≡ y → r ≡ openingAnswer o
     → (r ≡ openingAnswer (y .answer)) × (e ≡ y .bytes)
 opened p q a =
     (a ∙ ap (λ (z : Result). openingAnswer (z .answer)) (p ∙ q), ap (λ (z : Result). z .bytes) (p ∙ q))
-
-pub tested : {t u : MicTest} (was : ℕ) {r x : ℕ} → t ≡ u → r ≡ testAnswer t → x ≡ passesOf t was
-    → (r ≡ testAnswer u) × (x ≡ passesOf u was)
-tested was p a b = (a ∙ ap testAnswer p, b ∙ ap (λ (t : MicTest). passesOf t was) p)

@@ -2,7 +2,7 @@
 ghost use mathlib.Core.Path.{_≡_};
 ghost use Rattle.amend_list.specs.Listed.{amendFrameOf, amendedFrame};
 ghost use Rattle.frame_c.specs.Answers.{outcomeAnswer};
-use crate::answers::answer;
+use layout::answers::answer;
 
 #[no_mangle]
 pub extern "C" fn zinovoky_amend(

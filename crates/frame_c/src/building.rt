@@ -1,29 +1,17 @@
 // Buildings.
-ghost use mathlib.Core.Path.{_≡_};
 ghost use lib.Dec.{eqb};
 ghost use lib.ListN.{length};
 ghost use Rattle.build_join.specs.Building.{joinRequestRefusal, joinAcceptRefusal};
 ghost use Rattle.build.specs.Frames.{dataFrame};
 ghost use Rattle.build_join.specs.Frames.{joinRequest, joinAccept};
-ghost use Rattle.frame_c.specs.Answers.{builtAnswer, Builds};
-ghost use Rattle.frame_c.specs.Given.{requestParts, acceptParts, portOf, dataParts, dataRefused};
-use crate::answers::answer;
-use build::creator::Built;
-use build::creator::DataParts;
-use build_join::creator::JoinAcceptParts;
+ghost use Rattle.layout.specs.Given.{acceptParts, dataParts};
+ghost use Rattle.frame_c.specs.Answers.{Builds};
+ghost use Rattle.frame_c.specs.Given.{requestParts, dataRefused};
 use build_join::creator::JoinRequestParts;
-use control::is_confirmed;
-use control::is_uplink;
-use frame::parser::FPort;
-
-fn built_answer(built: Built) -> u64
-    ensures { λ r. ⌜ r ≡ builtAnswer built ⌝ }
-{
-    match built {
-        Built::Frame(n) => answer(0, n),
-        Built::Refused(n, p) => answer(n, p),
-    }
-}
+use layout::answers::answer;
+use layout::building::accept_parts;
+use layout::building::built_answer;
+use layout::building::data_parts;
 
 #[no_mangle]
 pub extern "C" fn zinovoky_build_join_request(
@@ -52,23 +40,6 @@ pub extern "C" fn zinovoky_build_join_request(
     built_answer(built)
 }
 
-// The fixed fields of a join-accept, in frame order.
-fn accept_parts(f: [u8; 12], with_list: bool) -> JoinAcceptParts
-    ensures { λ r. ⌜ r ≡ acceptParts f «with_list» ⌝ }
-{
-    let app_nonce = [f[0], f[1], f[2]];
-    let net_id = [f[3], f[4], f[5]];
-    let dev_addr = [f[6], f[7], f[8], f[9]];
-    JoinAcceptParts {
-        app_nonce,
-        net_id,
-        dev_addr,
-        dl_settings: f[10],
-        rx_delay: f[11],
-        with_c_f_list: with_list,
-    }
-}
-
 #[no_mangle]
 pub extern "C" fn zinovoky_build_join_accept(
     fixed: &[u8; 12],
@@ -89,32 +60,6 @@ pub extern "C" fn zinovoky_build_join_accept(
     let parts = accept_parts(bytes, with_list == 1);
     let built = build_join::creator::build_join_accept(parts, channels, key, out);
     built_answer(built)
-}
-
-// A number above 255 says that there is no port.
-fn port_of(port: u16) -> FPort
-    ensures { λ r. ⌜ r ≡ portOf port ⌝ }
-{
-    if port < 256 {
-        return FPort::Port(port as u8);
-    }
-    FPort::Absent
-}
-
-fn data_parts(kind: u8, dev_addr: [u8; 4], fctrl: u8, counter: u32, port: u16) -> DataParts
-    ensures { λ r. ⌜ r ≡ dataParts kind «dev_addr» fctrl counter port ⌝ }
-{
-    let confirmed = is_confirmed(kind);
-    let uplink = is_uplink(kind);
-    let place = port_of(port);
-    DataParts {
-        confirmed,
-        uplink,
-        dev_addr,
-        fctrl,
-        fcnt: counter,
-        port: place,
-    }
 }
 
 #[no_mangle]

@@ -1,8 +1,6 @@
 // The codec for C and for whatever calls C: functions on numbers and byte slices, as `zinovoky.h` declares them. Each calls
 // the function that does the work and turns its answer into one number.
 pub mod amending;
-mod answers;
 pub mod building;
 pub mod opening;
 pub mod reading;
-mod storing;

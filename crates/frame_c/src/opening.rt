@@ -4,15 +4,13 @@ ghost use Rattle.payload.specs.Opening.{joinRequestTest, joinAcceptTest, dataTe
 ghost use Rattle.join_accept.specs.JoinAccept.{acceptOpened};
 ghost use Rattle.join_accept.specs.Session.{sessionKeys};
 ghost use Rattle.default_crypto.specs.Checked.{dataOpenedChecked, acceptOpenedChecked};
-ghost use Rattle.frame_c.specs.Answers.{testAnswer, passesOf, openingAnswer};
-ghost use Rattle.frame_c.specs.Fields.{KeysInto};
+ghost use Rattle.layout.specs.Answers.{testAnswer, passesOf, openingAnswer};
+ghost use Rattle.layout.specs.Fields.{KeysInto};
 ghost use Rattle.frame_c.specs.Given.{nwkGiven, appGiven};
-use crate::answers::answer;
-use crate::answers::opening_answer;
-use crate::answers::test_answer;
-use crate::storing::or_short;
 use frame::keys::MaybeKey;
-use join_accept::SessionKeys;
+use layout::answers::opening_answer;
+use layout::answers::test_answer;
+use layout::opening::store_keys;
 
 #[no_mangle]
 pub extern "C" fn zinovoky_join_request_mic(
@@ -137,24 +135,6 @@ pub extern "C" fn zinovoky_decrypt_join_accept_checked(frame: &mut [u8], app_key
     let key = *app_key;
     let opening = default_crypto::decrypt_join_accept_checked(frame, key);
     opening_answer(opening)
-}
-
-pub(crate) const KEYS_LEN: usize = 32;
-
-// Stores two session keys that are derived, where there is room for them.
-fn store_keys(session: SessionKeys, keys: &mut [u8]) -> u64
-    ensures { λ r. ⌜ KeysInto session (now (keys .entry)) r (now (keys .exit)) ⌝ }
-{
-    let place = session.place;
-    let refusal = or_short(session.number, KEYS_LEN, keys.len());
-    if refusal != 0 {
-        return answer(refusal, place);
-    }
-    let nwk_skey = session.nwk_skey;
-    let app_skey = session.app_skey;
-    let end = pieces::put(keys, 0, &nwk_skey);
-    pieces::put(keys, end, &app_skey);
-    answer(0, place)
 }
 
 #[no_mangle]

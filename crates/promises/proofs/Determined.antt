@@ -74,6 +74,14 @@ use Rattle.build_join.proofs.creator.build_join_request.Reads as join-build-joi
 use Rattle.amend.proofs.Open.amend.Reads as amend-amend
 use Rattle.amend_list.proofs.amend_frame.Reads as amend-amend-frame
 use Rattle.amend.proofs.open_frame.Reads as amend-open-frame
+use Rattle.layout.proofs.answers.answer.Reads as layout-answer
+use Rattle.layout.proofs.answers.test_answer.Reads as layout-test-answer
+use Rattle.layout.proofs.answers.opening_answer.Reads as layout-opening-answer
+use Rattle.layout.proofs.reading.store_fields.Reads as layout-store-fields
+use Rattle.layout.proofs.opening.store_keys.Reads as layout-store-keys
+use Rattle.layout.proofs.building.built_answer.Reads as layout-built-answer
+use Rattle.layout.proofs.building.accept_parts.Reads as layout-accept-parts
+use Rattle.layout.proofs.building.data_parts.Reads as layout-data-parts
 use Rattle.frame_c.proofs.amending.zinovoky_amend.Reads as c-amend
 use Rattle.frame_c.proofs.building.zinovoky_build_data.Reads as c-build-data
 use Rattle.frame_c.proofs.building.zinovoky_build_join_accept.Reads as c-build-join-accept
@@ -325,6 +333,32 @@ amend-amend-determined κs a x y s t p q = p ∙ sym q
 
 pub amend-amend-frame-determined : DeterminedLent (λ κs s. now (s .0)) amend-amend-frame.Learnt
 amend-amend-frame-determined κs a x y s t p q = (p .0 ∙ sym (q .0), p .1 ∙ sym (q .1))
+
+-- ---- layout
+
+pub layout-answer-determined : Determined layout-answer.Learnt
+layout-answer-determined κs a x y s t p q = p ∙ sym q
+
+pub layout-opening-answer-determined : Determined layout-opening-answer.Learnt
+layout-opening-answer-determined κs a x y s t p q = p ∙ sym q
+
+pub layout-built-answer-determined : Determined layout-built-answer.Learnt
+layout-built-answer-determined κs a x y s t p q = p ∙ sym q
+
+pub layout-accept-parts-determined : Determined layout-accept-parts.Learnt
+layout-accept-parts-determined κs a x y s t p q = p ∙ sym q
+
+pub layout-data-parts-determined : Determined layout-data-parts.Learnt
+layout-data-parts-determined κs a x y s t p q = p ∙ sym q
+
+pub layout-test-answer-determined : DeterminedLent (λ κs s. one (now (s .1 .0))) layout-test-answer.Learnt
+layout-test-answer-determined κs a x y s t p q = (p .0 ∙ sym (q .0), ap one (p .1 ∙ sym (q .1)))
+
+pub layout-store-fields-determined : DeterminedLent (λ κs s. now (s .1 .1 .0)) layout-store-fields.Learnt
+layout-store-fields-determined κs a x y s t p q = (p .answer ∙ sym (q .answer), p .output ∙ sym (q .output))
+
+pub layout-store-keys-determined : DeterminedLent (λ κs s. now (s .1 .0)) layout-store-keys.Learnt
+layout-store-keys-determined κs a x y s t p q = (p .answer ∙ sym (q .answer), p .output ∙ sym (q .output))
 
 -- ---- frame_c
 

@@ -1,0 +1,2 @@
+mod Fillings
+pub mod Tested
