@@ -5,7 +5,8 @@ use mathlib.Core.Path.{_≡_, refl, ap, _∙_}
 use mathlib.Core.List.{List}
 use Prim.Native.Nat.{ℕ}
 use Rattle.field.specs.Field.{xtime, mulBits, mul, squares, inverse, fromBits, affine, invAffine, sub, invSub}
-use Rattle.aes.specs.Fips197.{subBytes, shiftRows, row, mixColumns, addRoundKey, powerOfX, nextWord, words, keyExpansion, round, rounds, cipher}
+use Rattle.schedule.specs.Expansion.{powerOfX, nextWord, words, keyExpansion}
+use Rattle.aes.specs.Fips197.{subBytes, shiftRows, row, mixColumns, addRoundKey, round, rounds, cipher}
 use Rattle.aes.specs.Fips197.{invSubBytes, invShiftRows, invMixColumns, invRound, invRounds, invCipher}
 use Rattle.examples.specs.Fips197.{key-B, schedule-A1, input-B, output-B, key-C1, schedule-C1, plain-C1, output-C1}
 

@@ -14,8 +14,10 @@ use Rattle.base.specs.Bytes.{at, part, AreBytes}
 use Rattle.base.proofs.Cases.{by-bool, by-order}
 use Rattle.base.proofs.Lent.{part-long, put-before, put-after}
 use Rattle.base.proofs.Parts.{bytes-append, bytes-take, bytes-drop}
-use Rattle.aes.specs.Fips197.{keyExpansion, cipher}
-use Rattle.aes.proofs.Laws.{schedule-byte, cipher-long, cipher-byte}
+use Rattle.schedule.specs.Expansion.{keyExpansion}
+use Rattle.aes.specs.Fips197.{cipher}
+use Rattle.schedule.proofs.Laws.{schedule-byte}
+use Rattle.aes.proofs.Laws.{cipher-long, cipher-byte}
 use Rattle.cmac.specs.Compared.{sameBytes}
 use Rattle.cmac.proofs.Compared.{same-of-test, test-of-same}
 use Rattle.frame.specs.Conditions.{IsJoinRequest, IsJoinAccept, IsData}

@@ -14,7 +14,8 @@ use denote.Enum.Declared.{tagOf}
 use Rattle.base.specs.Bytes.{pick, tab, at, part}
 use Rattle.base.proofs.Lent.{put-back}
 use Rattle.base.proofs.Tab.{tab-at}
-use Rattle.aes.specs.Fips197.{keyExpansion, cipher}
+use Rattle.schedule.specs.Expansion.{keyExpansion}
+use Rattle.aes.specs.Fips197.{cipher}
 use Rattle.aes.proofs.Laws.{cipher-long}
 use Rattle.cmac.specs.Compared.{sameBytes}
 use Rattle.payload.specs.JoinAccept.{eachBlock, fromOne, acceptDecrypted}

@@ -4,7 +4,8 @@
 use mathlib.Core.List.{List, _++_}
 use Prim.Native.Nat.{ℕ, zero, suc, _/_}
 use lib.ListN.{length, take, drop}
-use Rattle.aes.specs.Fips197.{keyExpansion, cipher, invCipher}
+use Rattle.schedule.specs.Expansion.{keyExpansion}
+use Rattle.aes.specs.Fips197.{cipher, invCipher}
 
 -- f on each of the first n blocks of sixteen bytes; the rest as it is
 unfoldable pub eachBlock : (List ℕ → List ℕ) → ℕ → List ℕ → List ℕ

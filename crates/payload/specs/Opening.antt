@@ -7,7 +7,8 @@ use mathlib.Core.List.{List, _∷_, _++_}
 use Prim.Native.Nat.{ℕ}
 use lib.Dec.{eqb}
 use Rattle.base.specs.Bytes.{pick, tab, part}
-use Rattle.aes.specs.Fips197.{keyExpansion, cipher}
+use Rattle.schedule.specs.Expansion.{keyExpansion}
+use Rattle.aes.specs.Fips197.{cipher}
 use Rattle.cmac.specs.Compared.{sameBytes}
 use Rattle.frame.specs.Layout.{fcnt, headerEnd, payloadEnd, micOf}
 use Rattle.payload.specs.JoinAccept.{acceptDecrypted}

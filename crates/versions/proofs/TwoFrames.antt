@@ -8,7 +8,8 @@ use lib.ListN.{take}
 use Rattle.base.specs.Bytes.{at, xorL}
 use Rattle.base.specs.Mask.{masked}
 use Rattle.field.specs.Field.{xtime, mulBits, mul, squares, inverse, fromBits, affine, sub}
-use Rattle.aes.specs.Fips197.{row, subBytes, shiftRows, mixColumns, addRoundKey, round, rounds, cipher, keyExpansion}
+use Rattle.schedule.specs.Expansion.{keyExpansion}
+use Rattle.aes.specs.Fips197.{row, subBytes, shiftRows, mixColumns, addRoundKey, round, rounds, cipher}
 use Rattle.cmac.specs.Rfc4493.{shifted, doubled, subkey1, subkey2, chain, ahead, padded, lastBlock, closed, tag, mac, mic}
 use Rattle.examples.specs.Fips197.{key-B, schedule-A1}
 use Rattle.examples.proofs.Fips197.{expansion-A1}
