@@ -1,4 +1,4 @@
-/* AES-128 byte by byte, step by step as crates/aes has it: the measure that its speed is held to.
+/* AES-128 byte by byte, step by step as crates/schedule and crates/aes have it: the measure that their speed is held to.
    200,000 blocks, each made of the one before: decrypted where standard input begins with 'd', else encrypted. */
 #include <stdint.h>
 #include <stdio.h>

@@ -1,5 +1,4 @@
 pub mod Column
-pub mod Growing
 pub mod Laws
 pub mod Linear
 pub mod Lookup

@@ -15,7 +15,8 @@ use Rattle.base.specs.Bytes.{pick, at, part, xorL}
 use Rattle.base.proofs.Tab.{tab-at, same-at}
 use Rattle.base.proofs.Lent.{part-long}
 use Rattle.base.proofs.Parts.{at-part}
-use Rattle.aes.specs.Fips197.{keyExpansion, cipher}
+use Rattle.schedule.specs.Expansion.{keyExpansion}
+use Rattle.aes.specs.Fips197.{cipher}
 use Rattle.aes.proofs.Laws.{cipher-long}
 use Rattle.cmac.specs.Compared.{sameBytes}
 use Rattle.cmac.specs.Rfc4493.{zeros, chain, mac, mic}

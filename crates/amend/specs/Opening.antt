@@ -7,7 +7,7 @@ use Prim.Native.Nat.{ℕ, _+_, _-_, _/_, _%_}
 use lib.Dec.{leb, eqb}
 use lib.ListN.{length, replicate}
 use Rattle.base.specs.Bytes.{pick, tab, at}
-use Rattle.aes.specs.Fips197.{keyExpansion}
+use Rattle.schedule.specs.Expansion.{keyExpansion}
 use Rattle.cmac.specs.Rfc4493.{chain}
 use Rattle.cmac.specs.Compared.{sameBytes}
 use Rattle.frame.specs.Layout.{fcnt, micOf}

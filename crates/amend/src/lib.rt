@@ -230,8 +230,8 @@ fn open_state(frame: &[u8], nwk_skey: [u8; 16], app_skey: [u8; 16], counter: u32
     requires { ⌜ (12 ≤ length (now frame)) × (length (now frame) ≤ 255) ⌝ }
     ensures { λ r. ⌜ r ≡ openedOf (now (frame .entry)) «nwk_skey» «app_skey» counter ⌝ }
 {
-    let nwk_schedule = aes::expand(nwk_skey);
-    let app_schedule = aes::expand(app_skey);
+    let nwk_schedule = schedule::expand(nwk_skey);
+    let app_schedule = schedule::expand(app_skey);
     let chains = chains_of(&nwk_schedule, frame, counter);
     let mut held = [0u8; 255];
     pieces::put(&mut held, 0, frame);

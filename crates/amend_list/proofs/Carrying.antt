@@ -7,7 +7,7 @@ use Prim.Native.Nat.{ℕ, _+_, _-_, _*_, _/_, _%_, _≤_, _<_}
 use native.Mathlib.Omega.{arith}
 use lib.ListN.{length, take, drop, set, length-set}
 use lib.Seq.{sets, sets-eq, take-take, take-append-add, take-set-le, drop-set-lt, length-take-le}
-use Rattle.aes.specs.Fips197.{keyExpansion}
+use Rattle.schedule.specs.Expansion.{keyExpansion}
 use Rattle.cmac.proofs.Laws.{chain-same}
 use Rattle.secure.specs.Security.{helperBlock, message, dataMic}
 use Rattle.secure.proofs.SecurityLaws.{helperBlock-long, helperBlock-same, dataMic-long}

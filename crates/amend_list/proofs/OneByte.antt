@@ -11,7 +11,8 @@ use lib.Dec.{eqb}
 use lib.ListN.{length, take, drop, set, replicate, length-append, length-replicate, length-set, take-append-drop, List·getD-append}
 use lib.Seq.{drop-at, take-take, take-append-le, take-set-lt, getD-take}
 use Rattle.base.specs.Bytes.{pick, at, _⊕_}
-use Rattle.aes.specs.Fips197.{keyExpansion, cipher}
+use Rattle.schedule.specs.Expansion.{keyExpansion}
+use Rattle.aes.specs.Fips197.{cipher}
 use Rattle.frame.specs.Conditions.{IsData}
 use Rattle.frame.specs.Layout.{fport, fhdrLength, payloadStart, headerEnd, header, payload}
 use Rattle.secure.specs.Sealing.{payloadKey, sealed}

@@ -9,7 +9,8 @@ use lib.ListN.{length, take, drop, length-append, length-drop}
 use lib.Seq.{take-at, drop-at, take-append-le, drop-append-le}
 use Rattle.base.specs.Bytes.{part}
 use Rattle.base.proofs.Put.{Put, put-front, then}
-use Rattle.aes.specs.Fips197.{keyExpansion, invCipher}
+use Rattle.schedule.specs.Expansion.{keyExpansion}
+use Rattle.aes.specs.Fips197.{invCipher}
 use Rattle.build_join.specs.Frames.{signed}
 use Rattle.join_accept.specs.JoinAccept.{eachBlock, acceptEncrypted}
 use Rattle.secure.specs.Security.{joinMic}

@@ -11,7 +11,8 @@ ghost use lib.ListN.{length, take};
 ghost use lib.Seq.{sets};
 ghost use Rattle.base.specs.Bytes.{at, part};
 ghost use Rattle.base.proofs.Put.{Put};
-ghost use Rattle.aes.specs.Fips197.{keyExpansion, invCipher};
+ghost use Rattle.schedule.specs.Expansion.{keyExpansion};
+ghost use Rattle.aes.specs.Fips197.{invCipher};
 ghost use Rattle.join_accept.specs.JoinAccept.{eachBlock};
 ghost use Rattle.build_join.specs.Building.{acceptHead, cfListBytes, frequencyBytes, joinAcceptBody, joinAcceptLength, joinAcceptRefusal, joinRequestBody, joinRequestRefusal, listByte, tooHigh};
 ghost use Rattle.build.specs.Frames.{Builds};
@@ -165,7 +166,7 @@ fn decrypt_blocks(key: [u8; 16], bytes: &mut [u8])
         ⌜ now (bytes .exit)
         ≡ eachBlock (invCipher (keyExpansion key)) (length (now (bytes .entry)) / 16) (now (bytes .entry)) ⌝ }
 {
-    let schedule = aes::expand(key);
+    let schedule = schedule::expand(key);
     let n = bytes.len() / 16;
     let mut k: usize = 0;
     while k < n {

@@ -14,8 +14,10 @@ use Rattle.base.specs.Bytes.{at, part, xorL, AreBytes}
 use Rattle.base.proofs.Xor.{xorL-nil, xorL-snoc, xorL-assoc}
 use Rattle.base.proofs.Parts.{part-take, bytes-take, bytes-drop, bytes-part, bytes-xorL, bytes-append, bytes-cons, bytes-replicate, xorL-zeros}
 use Rattle.base.proofs.Tested.{by-test}
-use Rattle.aes.specs.Fips197.{keyExpansion, cipher}
-use Rattle.aes.proofs.Laws.{schedule-byte, cipher-long, cipher-byte}
+use Rattle.schedule.specs.Expansion.{keyExpansion}
+use Rattle.aes.specs.Fips197.{cipher}
+use Rattle.schedule.proofs.Laws.{schedule-byte}
+use Rattle.aes.proofs.Laws.{cipher-long, cipher-byte}
 use Rattle.cmac.specs.declared.Cmac.{Cmac}
 use Rattle.cmac.specs.Rfc4493.{zeros, subkey1, subkey2, chain, ahead, padded, lastBlock, closed, tag, mac, mic}
 use Rattle.cmac.specs.Running.{state, resumed, started, mixed, pushed, absorbed, absorbedAll, joined, finished}

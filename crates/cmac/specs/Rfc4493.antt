@@ -6,7 +6,8 @@ use Prim.Native.Nat.{ℕ, zero, suc, _+_, _*_, _-_, _/_, _%_}
 use lib.ListN.{length, take, drop, replicate}
 use lib.Dec.{ltb}
 use Rattle.base.specs.Bytes.{pick, tab, at, part, xorL}
-use Rattle.aes.specs.Fips197.{keyExpansion, cipher}
+use Rattle.schedule.specs.Expansion.{keyExpansion}
+use Rattle.aes.specs.Fips197.{cipher}
 
 -- 2.1, const_Zero: sixteen zeros
 abbrev pub zeros : List ℕ

@@ -4,7 +4,8 @@ ghost use mathlib.Core.Path.{_≡_};
 ghost use Prim.Native.Nat.{_+_, _≤_};
 ghost use lib.ListN.{length, take};
 ghost use Rattle.base.specs.Bytes.{part, xorL};
-ghost use Rattle.aes.specs.Fips197.{keyExpansion, cipher};
+ghost use Rattle.schedule.specs.Expansion.{keyExpansion};
+ghost use Rattle.aes.specs.Fips197.{cipher};
 ghost use Rattle.cmac.specs.Rfc4493.{shifted, doubled, mac};
 ghost use Rattle.cmac.specs.Running.{started, resumed, absorbed, ended, finished};
 ghost use Rattle.cmac.specs.Compared.{sameBytes};
@@ -98,7 +99,7 @@ impl Cmac {
     pub fn new(key: [u8; 16]) -> Self
         ensures { λ r. ⌜ r ≡ started (keyExpansion key) ⌝ }
     {
-        let schedule = aes::expand(key);
+        let schedule = schedule::expand(key);
         Cmac::with_schedule(schedule)
     }
 

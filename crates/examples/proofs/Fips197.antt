@@ -8,8 +8,10 @@ use native.Mathlib.Omega.{arith}
 use Rattle.base.specs.Bytes.{at, AreBytes}
 use Rattle.base.proofs.Each.{each}
 use Rattle.field.specs.Field.{xtime, mulBits, mul, squares, inverse, fromBits, affine, sub}
-use Rattle.aes.specs.Fips197.{shiftRows, row, mixColumns, addRoundKey, powerOfX, nextWord, words, keyExpansion, cipher, invCipher}
-use Rattle.aes.proofs.Laws.{schedule-byte, invCipher-cipher}
+use Rattle.schedule.specs.Expansion.{powerOfX, nextWord, words, keyExpansion}
+use Rattle.aes.specs.Fips197.{shiftRows, row, mixColumns, addRoundKey, cipher, invCipher}
+use Rattle.schedule.proofs.Laws.{schedule-byte}
+use Rattle.aes.proofs.Laws.{invCipher-cipher}
 use Rattle.examples.specs.Fips197.{key-B, schedule-A1, input-B, output-B, key-C1, schedule-C1, plain-C1, output-C1}
 use Rattle.examples.proofs.ByList.{subListed, roundsListed, cipherListed, by-list}
 

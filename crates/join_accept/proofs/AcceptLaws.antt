@@ -11,8 +11,10 @@ use lib.Seq.{sets, sets-eq, take-all}
 use Rattle.base.specs.Bytes.{at, part, AreBytes}
 use Rattle.base.proofs.Lent.{put-back}
 use Rattle.base.proofs.Parts.{bytes-append, bytes-take, bytes-drop}
-use Rattle.aes.specs.Fips197.{keyExpansion, cipher}
-use Rattle.aes.proofs.Laws.{cipher-long, schedule-byte, cipher-byte}
+use Rattle.schedule.specs.Expansion.{keyExpansion}
+use Rattle.aes.specs.Fips197.{cipher}
+use Rattle.schedule.proofs.Laws.{schedule-byte}
+use Rattle.aes.proofs.Laws.{cipher-long, cipher-byte}
 use Rattle.join_accept.specs.JoinAccept.{eachBlock, fromOne, acceptDecrypted}
 use Rattle.join_accept.proofs.Blocks.{Blocking, step, blocks-long}
 

@@ -11,8 +11,10 @@ use lib.ListN.{length, take, drop, set, length-append, length-drop, take-append-
 use lib.Seq.{sets, sets-eq, length-take-le, take-at, drop-at, drop-append-add}
 use Rattle.base.specs.Bytes.{at, part, AreBytes}
 use Rattle.base.proofs.Parts.{bytes-take, bytes-drop}
-use Rattle.aes.specs.Fips197.{keyExpansion, cipher, invCipher}
-use Rattle.aes.proofs.Laws.{schedule-byte, invCipher-long, cipher-invCipher}
+use Rattle.schedule.specs.Expansion.{keyExpansion}
+use Rattle.aes.specs.Fips197.{cipher, invCipher}
+use Rattle.schedule.proofs.Laws.{schedule-byte}
+use Rattle.aes.proofs.Laws.{invCipher-long, cipher-invCipher}
 use Rattle.join_accept.specs.JoinAccept.{eachBlock, acceptEncrypted, acceptDecrypted}
 
 -- ---- stores past a first string

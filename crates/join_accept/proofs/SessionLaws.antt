@@ -6,7 +6,8 @@ use Prim.Native.Nat.{ℕ}
 use lib.ListN.{length}
 use Rattle.base.specs.Bytes.{tab, at, part}
 use Rattle.base.proofs.Tab.{tab-at}
-use Rattle.aes.specs.Fips197.{keyExpansion, cipher}
+use Rattle.schedule.specs.Expansion.{keyExpansion}
+use Rattle.aes.specs.Fips197.{cipher}
 use Rattle.aes.proofs.Laws.{cipher-long}
 use Rattle.join_accept.specs.Session.{keyBlock, sessionKey}
 use Rattle.join_accept.specs.declared.SessionKeys.{SessionKeys}

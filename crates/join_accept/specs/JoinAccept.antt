@@ -4,7 +4,8 @@
 use mathlib.Core.List.{List, _++_}
 use Prim.Native.Nat.{ℕ, zero, suc, _/_}
 use lib.ListN.{length, take, drop}
-use Rattle.aes.specs.Fips197.{keyExpansion, cipher, invCipher}
+use Rattle.schedule.specs.Expansion.{keyExpansion}
+use Rattle.aes.specs.Fips197.{cipher, invCipher}
 use Rattle.numbers.specs.Numbers.{onAccept}
 use Rattle.frame.specs.Reading.{readOf}
 use Rattle.payload.specs.declared.Opening.the-variants.{Opened}

@@ -4,7 +4,8 @@
 use mathlib.Core.List.{List, _∷_, _++_}
 use Prim.Native.Nat.{ℕ}
 use Rattle.base.specs.Bytes.{tab, part}
-use Rattle.aes.specs.Fips197.{keyExpansion, cipher}
+use Rattle.schedule.specs.Expansion.{keyExpansion}
+use Rattle.aes.specs.Fips197.{cipher}
 use Rattle.numbers.specs.Numbers.{onAccept}
 use Rattle.frame.specs.Reading.{readOf}
 use Rattle.join_accept.specs.declared.SessionKeys.{SessionKeys}

@@ -85,7 +85,7 @@ fn decrypt_accept(frame: &mut [u8], app_key: [u8; 16])
     requires { ⌜ 1 ≤ length (now frame) ⌝ }
     ensures { λ _. ⌜ now (frame .exit) ≡ acceptDecrypted «app_key» (now (frame .entry)) ⌝ }
 {
-    let schedule = aes::expand(app_key);
+    let schedule = schedule::expand(app_key);
     encrypt_blocks(&schedule, &mut frame[1..]);
 }
 
@@ -131,7 +131,7 @@ fn derive_keys(frame: &[u8], dev_nonce: [u8; 2], app_key: [u8; 16]) -> SessionKe
 {
     let app_nonce = three_at(frame, 1);
     let net_id = three_at(frame, 4);
-    let schedule = aes::expand(app_key);
+    let schedule = schedule::expand(app_key);
     let nwk_block = key_block(1, app_nonce, net_id, dev_nonce);
     let nwk_skey = aes::encrypt_under(&schedule, nwk_block);
     let app_block = key_block(2, app_nonce, net_id, dev_nonce);

@@ -34,5 +34,5 @@ fn shown(b: [u8; 16]) {
 fn main() {
     let mut way = [0u8; 1];
     libc::read(STDIN_FILENO, &mut way);
-    shown(worked(aes::expand(KEY), [0u8; 16], way[0] == b'd'));
+    shown(worked(schedule::expand(KEY), [0u8; 16], way[0] == b'd'));
 }

@@ -12,7 +12,7 @@ use Rattle.pieces.proofs.put.Reads as pieces-put
 use Rattle.pieces.proofs.block_at.Reads as pieces-block-at
 use Rattle.field.proofs.substitution.table.Reads as field-table
 use Rattle.field.proofs.inverse_substitution.table.Reads as field-inverse-table
-use Rattle.aes.proofs.expand.Reads as aes-expand
+use Rattle.schedule.proofs.expand.Reads as schedule-expand
 use Rattle.aes.proofs.encrypt_under.Reads as aes-encrypt-under
 use Rattle.aes.proofs.decrypt_under.Reads as aes-decrypt-under
 use Rattle.aes.proofs.encrypt.Reads as aes-encrypt
@@ -122,10 +122,12 @@ field-table-determined κs a x y s t p q = p ∙ sym q
 pub field-inverse-table-determined : Determined field-inverse-table.Learnt
 field-inverse-table-determined κs a x y s t p q = p ∙ sym q
 
--- ---- aes
+-- ---- schedule
 
-pub aes-expand-determined : Determined aes-expand.Learnt
-aes-expand-determined κs a x y s t p q = p ∙ sym q
+pub schedule-expand-determined : Determined schedule-expand.Learnt
+schedule-expand-determined κs a x y s t p q = p ∙ sym q
+
+-- ---- aes
 
 pub aes-encrypt-under-determined : Determined aes-encrypt-under.Learnt
 aes-encrypt-under-determined κs a x y s t p q = p ∙ sym q

@@ -13,8 +13,10 @@ use Rattle.base.proofs.Each.{each}
 use Rattle.base.proofs.Mask.{masked-long, masked-at, masked-byte, masked-same, masked-twice, masked-set}
 use Rattle.base.proofs.Lent.{part-long, same-start, put-back, put-before, put-part, put-after, put-same}
 use Rattle.base.proofs.Parts.{bytes-append}
-use Rattle.aes.specs.Fips197.{keyExpansion, cipher}
-use Rattle.aes.proofs.Laws.{schedule-byte, cipher-byte}
+use Rattle.schedule.specs.Expansion.{keyExpansion}
+use Rattle.aes.specs.Fips197.{cipher}
+use Rattle.schedule.proofs.Laws.{schedule-byte}
+use Rattle.aes.proofs.Laws.{cipher-byte}
 use Rattle.cmac.specs.Rfc4493.{mac}
 use Rattle.cmac.specs.Running.{started, absorbed, absorbedAll, joined, finished}
 use Rattle.cmac.proofs.Laws.{mac-cutting, mic-long, mic-byte}

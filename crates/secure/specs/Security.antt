@@ -6,7 +6,8 @@ use Prim.Native.Nat.{ℕ, _+_, _-_, _*_, _/_, _%_}
 use lib.ListN.{length, take, drop, set}
 use Rattle.base.specs.Bytes.{tab, at, part}
 use Rattle.base.specs.Mask.{masked}
-use Rattle.aes.specs.Fips197.{keyExpansion, cipher}
+use Rattle.schedule.specs.Expansion.{keyExpansion}
+use Rattle.aes.specs.Fips197.{cipher}
 use Rattle.cmac.specs.Rfc4493.{mic}
 use Rattle.frame.specs.Layout.{direction}
 

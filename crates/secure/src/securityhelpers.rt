@@ -108,7 +108,7 @@ pub fn encrypt_frm_data_payload(key: [u8; 16], start: [u8; 5], counter: u32, pay
     if payload.len() == 0 {
         return;
     }
-    let schedule = aes::expand(key);
+    let schedule = schedule::expand(key);
     let block = helper_block(1, start, counter, 0);
     xor_stream(&schedule, block, payload);
 }

@@ -500,7 +500,7 @@ fn decrypts(t: Tally, name: &[u8], key: [u8; 16], enciphered: [u8; 16], want: [u
 }
 
 fn encrypted_again(key: [u8; 16], block: [u8; 16], times: usize) -> [u8; 16] {
-    let schedule = aes::expand(key);
+    let schedule = schedule::expand(key);
     let mut b = block;
     let mut n = 0;
     while n < times {
@@ -512,7 +512,7 @@ fn encrypted_again(key: [u8; 16], block: [u8; 16], times: usize) -> [u8; 16] {
 }
 
 fn decrypted_again(key: [u8; 16], block: [u8; 16], times: usize) -> [u8; 16] {
-    let schedule = aes::expand(key);
+    let schedule = schedule::expand(key);
     let mut b = block;
     let mut n = 0;
     while n < times {
@@ -524,7 +524,7 @@ fn decrypted_again(key: [u8; 16], block: [u8; 16], times: usize) -> [u8; 16] {
 }
 
 fn schedule(t: Tally) -> Tally {
-    let got = aes::expand(KEY_B);
+    let got = schedule::expand(KEY_B);
     let want = WORDS_A1;
     tally::told(t, b"FIPS 197 A.1, 44 words", check::same(&got, &want))
 }

@@ -1,7 +1,7 @@
 -- `cmac::tag` meets its contract: a start, one part and the end give the tag. Assumes nothing.
 use mathlib.Core.Path.{ap, _∙_}
 use borrow.Author.Needs.{needs}
-use Rattle.aes.specs.Fips197.{keyExpansion}
+use Rattle.schedule.specs.Expansion.{keyExpansion}
 use Rattle.cmac.specs.declared.Cmac.{Cmac}
 use Rattle.cmac.specs.Rfc4493.{mac}
 use Rattle.cmac.specs.Running.{absorbed, finished}

@@ -3,7 +3,6 @@
 use mathlib.Core.Path.{refl}
 use Prim.Native.Nat.{_-_, _*_}
 use native.Mathlib.Omega.{arith}
-use borrow.Author.Needs.{needs}
 use Rattle.base.proofs.Filling.{Filling, start, done}
 use Rattle.aes.specs.Fips197.{mixedAt, invMixRow, invMixColumns}
 use Rattle.aes.proofs.Column.{column}
@@ -48,15 +47,15 @@ inv-mix-columns-spec =
     (λ c. omega arith)
     (λ c. omega arith)
     -- the four calls and stores
-    (λ c κs. search needs)
+    (λ c κs. tt)
     (λ c. omega arith)
-    (λ c κs. search needs)
-    (λ c. omega arith)
-    (λ c. omega arith)
-    (λ c κs. search needs)
+    (λ c κs. tt)
     (λ c. omega arith)
     (λ c. omega arith)
-    (λ c κs. search needs)
+    (λ c κs. tt)
+    (λ c. omega arith)
+    (λ c. omega arith)
+    (λ c κs. tt)
     (λ c. omega arith)
     (λ c. omega arith)
     -- the count

@@ -16,7 +16,7 @@ use Rattle.base.specs.Bytes.{pick, tab, at, _⊕_}
 use Rattle.base.proofs.Tab.{tab-at, tab-ext}
 use Rattle.base.proofs.Tested.{agree}
 use Rattle.field.specs.Field.{xtime, sub}
-use Rattle.aes.specs.Fips197.{word, xorWord, rotWord, subWord, powerOfX, rcon, temp, nextWord, withNext, words, keyExpansion}
+use Rattle.schedule.specs.Expansion.{word, xorWord, rotWord, subWord, powerOfX, rcon, temp, nextWord, withNext, words, keyExpansion}
 
 -- ---- the next word
 

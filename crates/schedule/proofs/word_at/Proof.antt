@@ -1,9 +1,9 @@
--- `aes::schedule::word_at` meets its contract: a word is the four bytes from its place on.
+-- `schedule::word_at` meets its contract: a word is the four bytes from its place on.
 -- Assumes nothing.
 use native.Mathlib.Omega.{arith}
-use Rattle.aes.proofs.Growing.{word-read}
-use Rattle.aes.proofs.schedule.word_at.Statement.{statement}
-use Rattle.aes.proofs.schedule.word_at.Tie as tie
+use Rattle.schedule.proofs.Growing.{word-read}
+use Rattle.schedule.proofs.word_at.Statement.{statement}
+use Rattle.schedule.proofs.word_at.Tie as tie
 
 returns : tie.Need-returns
 returns c =

@@ -1,4 +1,4 @@
--- `aes::schedule::substituted` meets its contract: the table holds what the rule gives at each byte.
+-- `schedule::substituted` meets its contract: the table holds what the rule gives at each byte.
 -- Assumes nothing.
 use mathlib.Core.Path.{ap, _∙_}
 use mathlib.Core.List.{List}
@@ -7,8 +7,8 @@ use native.Mathlib.Omega.{arith}
 use Rattle.base.specs.Bytes.{at}
 use Rattle.field.specs.Field.{sub}
 use Rattle.field.proofs.Tables.{sBox-entry}
-use Rattle.aes.proofs.schedule.substituted.Statement.{statement}
-use Rattle.aes.proofs.schedule.substituted.Tie as tie
+use Rattle.schedule.proofs.substituted.Statement.{statement}
+use Rattle.schedule.proofs.substituted.Tie as tie
 
 returns : tie.Need-returns
 unfolding sub

@@ -1,12 +1,12 @@
--- `aes::schedule::expanded` meets its contract: the loop writes the schedule a word a turn.
+-- `schedule::expand` meets its contract: the loop writes the schedule a word a turn.
 -- Assumes nothing.
 use mathlib.Core.Path.{_∙_}
 use Prim.Native.Nat.{_-_}
 use native.Mathlib.Omega.{arith}
 use borrow.Author.Needs.{needs}
-use Rattle.aes.proofs.Growing.{Growing, started, more, grown, same-schedule}
-use Rattle.aes.proofs.schedule.expanded.Statement.{statement}
-use Rattle.aes.proofs.schedule.expanded.Tie as tie
+use Rattle.schedule.proofs.Growing.{Growing, started, more, grown, same-schedule}
+use Rattle.schedule.proofs.expand.Statement.{statement}
+use Rattle.schedule.proofs.expand.Tie as tie
 
 abbrev Inv-loop : tie.InvT-loop
 Inv-loop table w₀ n₀ w n = Growing w₀ w n
@@ -30,8 +30,8 @@ returns c =
     grown (c .before .loop .inv) (c .loop-test .left)
     ∙ same-schedule (c .before .before .before .before .args .key) (c .before .before .begun .result) (c .before .before .begun .ensures .0) (c .before .before .begun .ensures .1)
 
-pub expanded-spec : {M : Type 1} → statement M
-expanded-spec =
+pub expand-spec : {M : Type 1} → statement M
+expand-spec =
     tie.close
     (tie.spec Inv-loop μ-loop (λ c κs. search needs) (λ c κs. search needs) loop-holds next-word-requires
     -- the places of the word that is written

@@ -1,10 +1,10 @@
--- `aes::schedule::added` meets its contract, by the law for each of its two cases.
+-- `schedule::added` meets its contract, by the law for each of its two cases.
 -- Assumes nothing.
 use borrow.Author.Needs.{needs}
 use native.Mathlib.Omega.{arith}
-use Rattle.aes.proofs.Growing.{temp-turned, temp-kept}
-use Rattle.aes.proofs.schedule.added.Statement.{statement}
-use Rattle.aes.proofs.schedule.added.Tie as tie
+use Rattle.schedule.proofs.Growing.{temp-turned, temp-kept}
+use Rattle.schedule.proofs.added.Statement.{statement}
+use Rattle.schedule.proofs.added.Tie as tie
 
 returns : tie.Need-returns
 returns c =

@@ -1,12 +1,12 @@
--- `aes::schedule::begun` meets its contract: the loop fills the first 16 bytes with the key.
+-- `schedule::begun` meets its contract: the loop fills the first 16 bytes with the key.
 -- Assumes nothing.
 use mathlib.Core.Path.{_≡_, refl}
 use Prim.Native.Nat.{_-_, _≤_}
 use native.Mathlib.Omega.{arith}
 use Rattle.base.specs.Bytes.{at}
 use Rattle.base.proofs.Filling.{Filling, start, step}
-use Rattle.aes.proofs.schedule.begun.Statement.{statement}
-use Rattle.aes.proofs.schedule.begun.Tie as tie
+use Rattle.schedule.proofs.begun.Statement.{statement}
+use Rattle.schedule.proofs.begun.Tie as tie
 
 abbrev Inv-loop : tie.InvT-loop
 Inv-loop key w₀ i₀ w i = (i ≤ 16) × Filling 176 (at key) w i

@@ -1,10 +1,10 @@
-// Key expansion: FIPS 197, 5.2.
+// Key expansion, by FIPS 197, 5.2: the schedule of a key.
 ghost use mathlib.Core.Path.{_≡_};
 ghost use Prim.Native.Nat.{_+_, _<_};
 ghost use lib.ListN.{length, take};
 ghost use Rattle.base.specs.Bytes.{tab, at};
 ghost use Rattle.field.specs.Field.{sub, sBox};
-ghost use Rattle.aes.specs.Fips197.{word, temp, nextWord, keyExpansion};
+ghost use Rattle.schedule.specs.Expansion.{word, temp, nextWord, keyExpansion};
 
 // The round constants, from round 1 on: x^0, x^1, ..
 const RCON: [u8; 10] = [0x01, 0x02, 0x04, 0x08, 0x10, 0x20, 0x40, 0x80, 0x1b, 0x36];
@@ -67,7 +67,8 @@ fn begun(key: [u8; 16]) -> [u8; 176]
     w
 }
 
-pub(crate) fn expanded(key: [u8; 16]) -> [u8; 176]
+// The schedule of a key: the bytes of its 44 words.
+pub fn expand(key: [u8; 16]) -> [u8; 176]
     ensures { λ r. ⌜ r ≡ keyExpansion key ⌝ }
 {
     let table = field::substitution::table();

@@ -1,13 +1,13 @@
--- `aes::schedule::next_word` meets its contract: it is the sum of the two words, byte by byte.
+-- `schedule::next_word` meets its contract: it is the sum of the two words, byte by byte.
 -- Assumes nothing.
 use mathlib.Core.Path.{ap, ap₂, _∙_}
 use mathlib.Core.List.{List}
 use Prim.Native.Nat.{ℕ, _+_}
 use native.Mathlib.Omega.{arith}
 use borrow.Author.Needs.{needs}
-use Rattle.aes.specs.Fips197.{xorWord, temp, nextWord}
-use Rattle.aes.proofs.schedule.next_word.Statement.{statement}
-use Rattle.aes.proofs.schedule.next_word.Tie as tie
+use Rattle.schedule.specs.Expansion.{xorWord, temp, nextWord}
+use Rattle.schedule.proofs.next_word.Statement.{statement}
+use Rattle.schedule.proofs.next_word.Tie as tie
 
 returns : tie.Need-returns
 unfolding nextWord
