@@ -19,7 +19,8 @@ use Rattle.base.proofs.Lent.{part-long}
 use Rattle.base.proofs.Parts.{part-take, at-part}
 use Rattle.aes.specs.Fips197.{cipher}
 use Rattle.aes.proofs.Laws.{cipher-long}
-use Rattle.cmac.specs.Rfc4493.{zeros, chain, tag}
+use Rattle.blocks.specs.Doubling.{zeros}
+use Rattle.cmac.specs.Rfc4493.{chain, tag}
 use Rattle.cmac.specs.Running.{resumed, absorbed, finished}
 use Rattle.cmac.proofs.Laws.{chain-suc, chain-long, resume}
 use Rattle.amend.specs.Amending.{lastBlock, chained, signedFrom}

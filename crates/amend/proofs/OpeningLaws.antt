@@ -18,8 +18,9 @@ use Rattle.base.proofs.Parts.{at-part}
 use Rattle.schedule.specs.Expansion.{keyExpansion}
 use Rattle.aes.specs.Fips197.{cipher}
 use Rattle.aes.proofs.Laws.{cipher-long}
-use Rattle.cmac.specs.Compared.{sameBytes}
-use Rattle.cmac.specs.Rfc4493.{zeros, chain, mac, mic}
+use Rattle.blocks.specs.Compared.{sameBytes}
+use Rattle.blocks.specs.Doubling.{zeros}
+use Rattle.cmac.specs.Rfc4493.{chain, mac, mic}
 use Rattle.cmac.proofs.Laws.{chain-zero, chain-suc}
 use Rattle.frame.specs.Conditions.{IsData}
 use Rattle.frame.specs.Layout.{fcnt, micOf}

@@ -9,7 +9,7 @@ use lib.ListN.{length, replicate}
 use Rattle.base.specs.Bytes.{pick, tab, at}
 use Rattle.schedule.specs.Expansion.{keyExpansion}
 use Rattle.cmac.specs.Rfc4493.{chain}
-use Rattle.cmac.specs.Compared.{sameBytes}
+use Rattle.blocks.specs.Compared.{sameBytes}
 use Rattle.frame.specs.Layout.{fcnt, micOf}
 use Rattle.numbers.specs.Numbers.{onData}
 use Rattle.frame.specs.Reading.{readOf}

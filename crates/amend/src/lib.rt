@@ -69,7 +69,7 @@ fn sign_from(schedule: [u8; 176], frame: &[u8], n: usize, chains: &[u8]) -> [u8;
     let tag = cmac::Cmac::resume(schedule, chain)
         .update(&frame[start..n])
         .finish();
-    cmac::mic_of(tag)
+    blocks::mic_of(tag)
 }
 
 // The key stream's byte for payload byte `k`.
@@ -264,7 +264,7 @@ fn open_checked(frame: &[u8], nwk_skey: [u8; 16], app_skey: [u8; 16], counter: u
     let chains = state.chains;
     let mic = sign_from(schedule, frame, frame.len() - 4, &chains);
     let given = mic_at(frame);
-    if cmac::same_mic(mic, given) {
+    if blocks::same_mic(mic, given) {
         return Opened {
             number: 0,
             place: 0,

@@ -8,8 +8,8 @@ use native.Mathlib.Omega.{arith}
 use lib.Dec.{eqb}
 use borrow.Author.Tests.{eqb-true}
 use Rattle.base.specs.Bytes.{pick}
-use Rattle.cmac.specs.Compared.{sameBytes}
-use Rattle.cmac.proofs.Compared.{same-of-test, test-of-same}
+use Rattle.blocks.specs.Compared.{sameBytes}
+use Rattle.blocks.proofs.Compared.{same-of-test, test-of-same}
 use Rattle.frame.specs.Conditions.{IsData, Gives, of12, of1, of2, of3, of4}
 use Rattle.frame.specs.Layout.{fcnt, micOf}
 use Rattle.numbers.specs.Numbers.{onData}

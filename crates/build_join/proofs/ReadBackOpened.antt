@@ -16,7 +16,7 @@ use Rattle.secure.specs.Security.{covered, joinMic}
 use Rattle.payload.specs.declared.MicTest.the-variants.{Passes}
 use Rattle.payload.specs.declared.Opening.the-variants.{Opened}
 use Rattle.payload.proofs.DecryptionLaws.{request-mic-exactly}
-use Rattle.cmac.proofs.Compared.{test-of-same}
+use Rattle.blocks.proofs.Compared.{test-of-same}
 use Rattle.build_join.specs.Building.{joinAcceptBody}
 use Rattle.build_join.specs.Frames.{signed}
 use Rattle.build_join.specs.declared.creator.JoinAcceptParts.{JoinAcceptParts}

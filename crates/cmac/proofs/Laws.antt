@@ -19,9 +19,12 @@ use Rattle.aes.specs.Fips197.{cipher}
 use Rattle.schedule.proofs.Laws.{schedule-byte}
 use Rattle.aes.proofs.Laws.{cipher-long, cipher-byte}
 use Rattle.cmac.specs.declared.Cmac.{Cmac}
-use Rattle.cmac.specs.Rfc4493.{zeros, subkey1, subkey2, chain, ahead, padded, lastBlock, closed, tag, mac, mic}
-use Rattle.cmac.specs.Running.{state, resumed, started, mixed, pushed, absorbed, absorbedAll, joined, finished}
-use Rattle.cmac.proofs.Subkeys.{picked, subkey1-byte, subkey2-byte}
+use Rattle.blocks.specs.Doubling.{zeros}
+use Rattle.blocks.specs.Last.{mixed}
+use Rattle.blocks.proofs.Doubling.{picked}
+use Rattle.cmac.specs.Rfc4493.{subkey1, subkey2, chain, ahead, padded, lastBlock, closed, tag, mac, mic}
+use Rattle.cmac.specs.Running.{state, resumed, started, pushed, absorbed, absorbedAll, joined, finished}
+use Rattle.cmac.proofs.Subkeys.{subkey1-byte, subkey2-byte}
 
 -- ---- chain values
 

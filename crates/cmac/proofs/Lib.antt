@@ -1,4 +1,3 @@
-pub mod Compared
 pub mod Laws
 pub mod Subkeys
 pub mod Turns

@@ -1,6 +1,5 @@
 -- One turn of `update`, whichever arm it takes: what is still to be taken in gives the same. A byte goes into the open
--- block; behind a full block a byte or a whole block goes into the next one, after the full one is enciphered. Then the two
--- ways in which the last block ends.
+-- block; behind a full block a byte or a whole block goes into the next one, after the full one is enciphered.
 -- Assumes nothing.
 use mathlib.Core.Path.{_≡_, refl, sym, ap, ap₂, _∙_}
 use mathlib.Core.List.{List, [], _∷_, _++_, append-nil, append-assoc}
@@ -12,11 +11,11 @@ use lib.Seq.{drop-cons, drop-drop, length-take-le}
 use borrow.Author.Tests.{lt-ltb, le-ltb}
 use Rattle.base.specs.Bytes.{at, part, xorL}
 use Rattle.base.proofs.Xor.{xorL-nil}
+use Rattle.blocks.specs.Last.{mixed}
 use Rattle.aes.specs.Fips197.{cipher}
 use Rattle.aes.proofs.Laws.{cipher-long}
 use Rattle.cmac.specs.declared.Cmac.{Cmac}
-use Rattle.cmac.specs.Rfc4493.{doubled}
-use Rattle.cmac.specs.Running.{state, mixed, pushed, absorbed, ended}
+use Rattle.cmac.specs.Running.{state, pushed, absorbed}
 use Rattle.cmac.proofs.Laws.{mixed-snoc}
 
 push-open : (ks x : List ℕ) (n b : ℕ) → n < 16 → pushed (state ks x n) b ≡ state ks (mixed x n b) (n + 1)
@@ -86,11 +85,3 @@ block-next ks x p n i h k =
     ap₂ absorbed (sym whole) (sym (drop-drop 16 i p))
     ∙ sym (absorb-append (state ks x n) (part i 16 p) (drop 16 (drop i p)))
     ∙ ap (absorbed (state ks x n)) (take-append-drop 16 (drop i p))
-
--- ---- the last block
-
-pub ended-open : (l x : List ℕ) (n : ℕ) → n < 16 → xorL (mixed x n 0x80) (doubled (doubled l)) ≡ ended l x n
-ended-open l x n h = simp (lt-ltb n 16 h)
-
-pub ended-full : (l x : List ℕ) (n : ℕ) → 16 ≤ n → xorL x (doubled l) ≡ ended l x n
-ended-full l x n h = simp (le-ltb n 16 h)

@@ -1,3 +1,2 @@
 pub mod Rfc4493
 pub mod Running
-pub mod Compared

@@ -1,33 +1,15 @@
--- CMAC with AES-128, after RFC 4493: the subkeys (section 2.3) and the tag (section 2.4). ks is the key schedule, so
--- that AES-128(K, x) is cipher ks x; m is the message. The blocks of the message go by their index.
+-- CMAC with AES-128, after RFC 4493: the subkeys (section 2.3), by doubling as the crate `blocks` defines it, and the tag
+-- (section 2.4). ks is the key schedule, so that AES-128(K, x) is cipher ks x; m is the message. The blocks of the message
+-- go by their index.
 -- Assumes nothing.
 use mathlib.Core.List.{List, [], _∷_, _++_}
-use Prim.Native.Nat.{ℕ, zero, suc, _+_, _*_, _-_, _/_, _%_}
+use Prim.Native.Nat.{ℕ, zero, suc, _*_, _-_, _/_}
 use lib.ListN.{length, take, drop, replicate}
 use lib.Dec.{ltb}
-use Rattle.base.specs.Bytes.{pick, tab, at, part, xorL}
+use Rattle.base.specs.Bytes.{pick, part, xorL}
+use Rattle.blocks.specs.Doubling.{zeros, doubled}
 use Rattle.schedule.specs.Expansion.{keyExpansion}
 use Rattle.aes.specs.Fips197.{cipher}
-
--- 2.1, const_Zero: sixteen zeros
-abbrev pub zeros : List ℕ
-zeros = replicate 16 0
-
--- 2.3, const_Rb: 0x87 behind fifteen zeros
-abbrev pub constRb : List ℕ
-constRb = replicate 15 0 ++ 0x87 ∷ []
-
--- byte i of x << 1: the byte's own low seven bits, then the top bit of the next byte
-abbrev pub shiftedAt : List ℕ → ℕ → ℕ
-shiftedAt x i = at x i * 2 % 256 + at x (i + 1) / 128
-
--- 2.1: x << 1, the sixteen bytes shifted left by one bit
-unfoldable pub shifted : List ℕ → List ℕ
-shifted x = tab 16 (shiftedAt x)
-
--- 2.3, steps 2 and 3: x << 1, with const_Rb if the top bit of x was set
-unfoldable pub doubled : List ℕ → List ℕ
-doubled x = pick (ltb (at x 0) 128) (shifted x) (xorL (shifted x) constRb)
 
 -- 2.3: K1, of L = AES-128(K, const_Zero)
 unfoldable pub subkey1 : List ℕ → List ℕ

@@ -4,12 +4,13 @@
 -- Assumes nothing.
 use mathlib.Core.List.{List, [], _∷_, _++_}
 use Prim.Native.Nat.{ℕ, _+_}
-use lib.ListN.{set}
 use lib.Dec.{ltb}
-use Rattle.base.specs.Bytes.{pick, at, _⊕_, xorL}
+use Rattle.base.specs.Bytes.{pick, xorL}
+use Rattle.blocks.specs.Doubling.{zeros}
+use Rattle.blocks.specs.Last.{mixed}
 use Rattle.aes.specs.Fips197.{cipher}
 use Rattle.cmac.specs.declared.Cmac.{Cmac}
-use Rattle.cmac.specs.Rfc4493.{zeros, doubled, subkey1, subkey2}
+use Rattle.cmac.specs.Rfc4493.{subkey1, subkey2}
 
 -- a state by its fields
 abbrev pub state : List ℕ → List ℕ → ℕ → Cmac
@@ -22,10 +23,6 @@ resumed ks x = state ks x 0
 -- before the first byte
 abbrev pub started : List ℕ → Cmac
 started ks = resumed ks zeros
-
--- x with the byte b put in at index i
-abbrev pub mixed : List ℕ → ℕ → ℕ → List ℕ
-mixed x i b = set x i (at x i ⊕ b)
 
 -- one byte more: into the open block, or, where that is full, into the next one
 unfoldable pub pushed : Cmac → ℕ → Cmac
@@ -48,11 +45,6 @@ absorbedAll s (p ∷ ps) = absorbedAll (absorbed s p) ps
 unfoldable pub joined : List (List ℕ) → List ℕ
 joined [] = []
 joined (p ∷ ps) = p ++ joined ps
-
--- the last block with its subkey, of l = AES-128(K, 0): an open block gets its one bit and the second subkey, a full one
--- the first
-abbrev pub ended : List ℕ → List ℕ → ℕ → List ℕ
-ended l x n = pick (ltb n 16) (xorL (mixed x n 0x80) (doubled (doubled l))) (xorL x (doubled l))
 
 -- the tag: an open block gets its one bit and the second subkey, a full one the first
 unfoldable pub finished : Cmac → List ℕ

@@ -9,7 +9,8 @@ use Rattle.base.specs.Bytes.{xorL}
 use Rattle.field.specs.Field.{xtime, mulBits, mul, fromBits, affine}
 use Rattle.schedule.specs.Expansion.{keyExpansion}
 use Rattle.aes.specs.Fips197.{row, shiftRows, mixColumns, addRoundKey, cipher}
-use Rattle.cmac.specs.Rfc4493.{zeros, shifted, doubled, subkey1, subkey2, chain, ahead, padded, lastBlock, closed, tag, mac}
+use Rattle.blocks.specs.Doubling.{zeros, shifted, doubled}
+use Rattle.cmac.specs.Rfc4493.{subkey1, subkey2, chain, ahead, padded, lastBlock, closed, tag, mac}
 use Rattle.examples.specs.Fips197.{key-B, schedule-A1}
 use Rattle.examples.specs.Rfc4493.{l, k1, k2, tag-1, message-2, tag-2}
 use Rattle.examples.proofs.ByList.{subListed, roundsListed, cipherListed, by-list}

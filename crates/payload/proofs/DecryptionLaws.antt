@@ -11,8 +11,8 @@ use lib.Seq.{getD-take, getD-drop}
 use Rattle.base.specs.Bytes.{at, part}
 use Rattle.base.proofs.Cases.{by-bool, by-order}
 use Rattle.base.proofs.Lent.{part-long, put-before, put-after}
-use Rattle.cmac.specs.Compared.{sameBytes}
-use Rattle.cmac.proofs.Compared.{same-of-test, test-of-same}
+use Rattle.blocks.specs.Compared.{sameBytes}
+use Rattle.blocks.proofs.Compared.{same-of-test, test-of-same}
 use Rattle.frame.specs.Conditions.{IsJoinRequest, IsJoinAccept, IsData}
 use Rattle.frame.specs.Layout.{fcnt, header, headerEnd, payloadEnd, micOf}
 use Rattle.numbers.specs.Numbers.{onRequest, onAccept, onData}

@@ -12,7 +12,7 @@ use lib.Seq.{take-all}
 use types.Run.{OneOf}
 use denote.Enum.Declared.{tagOf}
 use Rattle.base.specs.Bytes.{pick, part}
-use Rattle.cmac.specs.Compared.{sameBytes}
+use Rattle.blocks.specs.Compared.{sameBytes}
 use Rattle.frame.specs.Layout.{fcnt, fhdrLength, headerEnd, payloadEnd, micOf}
 use Rattle.numbers.specs.Numbers.{otherNumber, placeOf, onRequest, onAccept, onData}
 use Rattle.payload.specs.Opening.{decrypted}

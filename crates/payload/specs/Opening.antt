@@ -6,7 +6,7 @@ use mathlib.Core.List.{List}
 use Prim.Native.Nat.{ℕ}
 use lib.Dec.{eqb}
 use Rattle.base.specs.Bytes.{pick}
-use Rattle.cmac.specs.Compared.{sameBytes}
+use Rattle.blocks.specs.Compared.{sameBytes}
 use Rattle.frame.specs.Layout.{fcnt, headerEnd, payloadEnd, micOf}
 use Rattle.numbers.specs.Numbers.{portNumber, onRequest, onAccept, onData}
 use Rattle.frame.specs.Reading.{readOf}

@@ -4,7 +4,7 @@ ghost use Prim.Native.Nat.{_+_, _≤_, min};
 ghost use lib.ListN.{length};
 ghost use Rattle.base.specs.Bytes.{part};
 ghost use Rattle.frame.specs.Conditions.{IsData};
-ghost use Rattle.cmac.specs.Compared.{sameBytes};
+ghost use Rattle.blocks.specs.Compared.{sameBytes};
 ghost use Rattle.frame.specs.Layout.{micOf};
 ghost use Rattle.numbers.specs.Numbers.{otherNumber, placeOf};
 ghost use Rattle.frame.specs.Reading.{dataOf};
@@ -58,7 +58,7 @@ fn answer(frame: &[u8], right: [u8; 4]) -> MicTest
     ensures { λ r. ⌜ r ≡ answered (sameBytes (micOf (now (frame .entry))) right) ⌝ }
 {
     let found = four_at(frame, frame.len() - MIC_LEN);
-    if cmac::same_mic(found, right) {
+    if blocks::same_mic(found, right) {
         return MicTest::Passes;
     }
     MicTest::Fails

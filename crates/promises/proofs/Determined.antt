@@ -17,6 +17,10 @@ use Rattle.aes.proofs.encrypt_under.Reads as aes-encrypt-under
 use Rattle.aes.proofs.decrypt_under.Reads as aes-decrypt-under
 use Rattle.aes.proofs.encrypt.Reads as aes-encrypt
 use Rattle.aes.proofs.decrypt.Reads as aes-decrypt
+use Rattle.blocks.proofs.xored.Reads as blocks-xored
+use Rattle.blocks.proofs.last_block.Reads as blocks-last-block
+use Rattle.blocks.proofs.mic_of.Reads as blocks-mic-of
+use Rattle.blocks.proofs.same_mic.Reads as blocks-same-mic
 use Rattle.cmac.proofs.next_chain.Reads as cmac-next-chain
 use Rattle.cmac.proofs.Cmac.new.Reads as cmac-new
 use Rattle.cmac.proofs.Cmac.with_schedule.Reads as cmac-with-schedule
@@ -24,8 +28,6 @@ use Rattle.cmac.proofs.Cmac.resume.Reads as cmac-resume
 use Rattle.cmac.proofs.Cmac.update.Reads as cmac-update
 use Rattle.cmac.proofs.Cmac.finish.Reads as cmac-finish
 use Rattle.cmac.proofs.tag.Reads as cmac-tag
-use Rattle.cmac.proofs.mic_of.Reads as cmac-mic-of
-use Rattle.cmac.proofs.same_mic.Reads as cmac-same-mic
 use Rattle.control.proofs.message_type.Reads as control-message-type
 use Rattle.control.proofs.is_uplink.Reads as control-is-uplink
 use Rattle.control.proofs.is_confirmed.Reads as control-is-confirmed
@@ -141,6 +143,20 @@ aes-encrypt-determined κs a x y s t p q = p ∙ sym q
 pub aes-decrypt-determined : Determined aes-decrypt.Learnt
 aes-decrypt-determined κs a x y s t p q = p ∙ sym q
 
+-- ---- blocks
+
+pub blocks-xored-determined : Determined blocks-xored.Learnt
+blocks-xored-determined κs a x y s t p q = p ∙ sym q
+
+pub blocks-last-block-determined : Determined blocks-last-block.Learnt
+blocks-last-block-determined κs a x y s t p q = p ∙ sym q
+
+pub blocks-mic-of-determined : Determined blocks-mic-of.Learnt
+blocks-mic-of-determined κs a x y s t p q = p ∙ sym q
+
+pub blocks-same-mic-determined : Determined blocks-same-mic.Learnt
+blocks-same-mic-determined κs a x y s t p q = p ∙ sym q
+
 -- ---- cmac
 
 pub cmac-next-chain-determined : Determined cmac-next-chain.Learnt
@@ -163,12 +179,6 @@ cmac-finish-determined κs a x y s t p q = p ∙ sym q
 
 pub cmac-tag-determined : Determined cmac-tag.Learnt
 cmac-tag-determined κs a x y s t p q = p ∙ sym q
-
-pub cmac-mic-of-determined : Determined cmac-mic-of.Learnt
-cmac-mic-of-determined κs a x y s t p q = p ∙ sym q
-
-pub cmac-same-mic-determined : Determined cmac-same-mic.Learnt
-cmac-same-mic-determined κs a x y s t p q = p ∙ sym q
 
 -- ---- control
 

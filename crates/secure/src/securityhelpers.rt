@@ -128,7 +128,7 @@ fn calculate_mic_with_header(key: [u8; 16], header: [u8; 16], message: &[u8]) ->
         .update(&header)
         .update(message)
         .finish();
-    cmac::mic_of(tag)
+    blocks::mic_of(tag)
 }
 
 // 4.4: the MIC of a data message, every byte of the frame ahead of the MIC. `counter` is the whole 32-bit counter.
@@ -145,5 +145,5 @@ pub fn calculate_mic(key: [u8; 16], message: &[u8]) -> [u8; 4]
     ensures { λ r. ⌜ r ≡ joinMic key (now (message .entry)) ⌝ }
 {
     let tag = cmac::tag(key, message);
-    cmac::mic_of(tag)
+    blocks::mic_of(tag)
 }

@@ -8,7 +8,8 @@ use borrow.Author.Needs.{needs}
 use lib.ListN.{length, drop, length-set, drop-of-length-le}
 use Rattle.base.specs.Bytes.{at, part, xorL}
 use Rattle.aes.proofs.Laws.{cipher-long}
-use Rattle.cmac.specs.Running.{state, mixed, absorbed}
+use Rattle.blocks.specs.Last.{mixed}
+use Rattle.cmac.specs.Running.{state, absorbed}
 use Rattle.cmac.proofs.Turns.{byte-open, byte-next, block-next}
 use Rattle.cmac.proofs.Cmac.update.Statement.{statement}
 use Rattle.cmac.proofs.Cmac.update.Tie as tie

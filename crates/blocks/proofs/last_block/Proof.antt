@@ -2,11 +2,11 @@
 use mathlib.Core.Path.{ap, _∙_}
 use borrow.Author.Needs.{needs}
 use Rattle.base.specs.Bytes.{xorL}
-use Rattle.cmac.specs.Rfc4493.{doubled}
-use Rattle.cmac.specs.Running.{mixed}
-use Rattle.cmac.proofs.Turns.{ended-open, ended-full}
-use Rattle.cmac.proofs.last_block.Statement.{statement}
-use Rattle.cmac.proofs.last_block.Tie as tie
+use Rattle.blocks.specs.Doubling.{doubled}
+use Rattle.blocks.specs.Last.{mixed}
+use Rattle.blocks.proofs.Last.{ended-open, ended-full}
+use Rattle.blocks.proofs.last_block.Statement.{statement}
+use Rattle.blocks.proofs.last_block.Tie as tie
 
 returns : tie.Need-returns
 returns c =

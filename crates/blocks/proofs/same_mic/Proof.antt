@@ -1,9 +1,9 @@
 -- `cmac::same_mic` meets its contract: the bits in which the codes differ, put together, are none exactly if the codes
 -- are the same. Assumes nothing.
 use borrow.Author.Needs.{needs}
-use Rattle.cmac.proofs.Compared.{four-test}
-use Rattle.cmac.proofs.same_mic.Statement.{statement}
-use Rattle.cmac.proofs.same_mic.Tie as tie
+use Rattle.blocks.proofs.Compared.{four-test}
+use Rattle.blocks.proofs.same_mic.Statement.{statement}
+use Rattle.blocks.proofs.same_mic.Tie as tie
 
 returns : tie.Need-returns
 returns c = four-test _ _ (search needs) (search needs)

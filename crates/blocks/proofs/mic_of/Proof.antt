@@ -5,8 +5,8 @@ use lib.ListN.{length}
 use borrow.Author.Needs.{needs}
 use mathlib.Core.Path.{_≡_}
 use Rattle.base.proofs.Parts.{part-tab}
-use Rattle.cmac.proofs.mic_of.Statement.{statement}
-use Rattle.cmac.proofs.mic_of.Tie as tie
+use Rattle.blocks.proofs.mic_of.Statement.{statement}
+use Rattle.blocks.proofs.mic_of.Tie as tie
 
 returns : tie.Need-returns
 returns c =
