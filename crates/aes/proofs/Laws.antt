@@ -27,11 +27,6 @@ round-block : (w : List ℕ) (r : ℕ) (s : List ℕ) → AreBytes w → Block (
 unfolding round
 round-block w r s hw = steps.addRoundKey-block w r _ hw (steps.mixColumns-block _ .byte)
 
-rounds-block : (w : List ℕ) (n : ℕ) (s : List ℕ) → AreBytes w → Block s → Block (rounds w n s)
-unfolding rounds
-rounds-block w zero s hw hs = hs
-rounds-block w (suc n) s hw hs = round-block w (suc n) (rounds w n s) hw
-
 invRound-block : (w : List ℕ) (r : ℕ) (s : List ℕ) → Block (invRound w r s)
 unfolding invRound
 invRound-block w r s = steps.invMixColumns-block _
@@ -50,10 +45,6 @@ unshifted s = invSubBytes (invShiftRows s)
 pub cipher-byte : (w s : List ℕ) → AreBytes w → AreBytes s → AreBytes (cipher w s)
 unfolding cipher
 cipher-byte w s hw hs = steps.addRoundKey-block w 10 _ hw (shifted-block _ .byte) .byte
-
-pub invCipher-byte : (w s : List ℕ) → AreBytes w → AreBytes s → AreBytes (invCipher w s)
-unfolding invCipher
-invCipher-byte w s hw hs = steps.addRoundKey-block w 0 _ hw (steps.invSubBytes-block _ .byte) .byte
 
 -- ---- each undoes the other
 

@@ -34,9 +34,6 @@ module _ (a e : ℕ) (s t : List ℕ) (h : a ≤ e) (inside : e ≤ length s) (l
   ahead : length (take a s ++ t) ≡ e
   ahead = length-append (take a s) t ∙ (simp front (omega arith))
 
-  pub put-long : length (take a s ++ t ++ drop e s) ≡ length s
-  put-long = simp (length-append, length-take, length-drop) (omega arith)
-
   pub put-before : (n : ℕ) → n ≤ a → take n (take a s ++ t ++ drop e s) ≡ take n s
   put-before n k =
       ap (take n) (append-assoc (take a s) t (drop e s))

@@ -1,4 +1,4 @@
--- A string under a mask: its length and bytes, that the same mask takes itself off again, how it goes over parts and
+-- A string under a mask: its length, that the same mask takes itself off again, how it goes over parts and
 -- over one byte that is changed, and the loop that lays it on from the front.
 -- Assumes nothing.
 use mathlib.Core.Path.{_≡_, refl, sym, ap, ap₂, _∙_, subst}
@@ -9,11 +9,11 @@ use native.Mathlib.Numerals.{add-one}
 use native.Mathlib.Omega.{arith}
 use lib.ListN.{length, take, drop, set, length-append, length-take, length-drop, drop-of-length-le}
 use lib.Seq.{drop-cons, take-all, take-add, take-at, drop-at, append-snoc, set-split, drop-drop, length-take-le}
-use Rattle.base.specs.Bytes.{at, part, _⊕_, AreBytes}
+use Rattle.base.specs.Bytes.{at, part, _⊕_}
 use Rattle.base.specs.Mask.{masked}
 use Rattle.base.proofs.Lent.{part-long, put-back}
-use Rattle.base.proofs.Tab.{length-tab, at-tab, tab-ext, tab-all}
-use Rattle.base.proofs.Xor.{xor-twice, xor-byte}
+use Rattle.base.proofs.Tab.{length-tab, at-tab, tab-ext}
+use Rattle.base.proofs.Xor.{xor-twice}
 
 pub masked-long : (p : List ℕ) (f : ℕ → ℕ) → length (masked p f) ≡ length p
 unfolding masked
@@ -22,11 +22,6 @@ masked-long p f = length-tab (length p) (λ j. at p j ⊕ f j)
 pub masked-at : (p : List ℕ) (f : ℕ → ℕ) (i : ℕ) → i < length p → at (masked p f) i ≡ at p i ⊕ f i
 unfolding masked
 masked-at p f i h = at-tab (length p) (λ j. at p j ⊕ f j) i h
-
-pub masked-byte : (p : List ℕ) (f : ℕ → ℕ) → AreBytes p → ((i : ℕ) → f i < 256) → AreBytes (masked p f)
-unfolding masked
-masked-byte p f hp hf =
-    tab-all (λ n. n < 256) (length p) (λ j. at p j ⊕ f j) (omega arith) (λ j l. xor-byte (at p j) (f j) (hp j) (hf j))
 
 -- masks that agree wherever there is a byte
 pub masked-same : (p : List ℕ) (f g : ℕ → ℕ) → ((i : ℕ) → i < length p → f i ≡ g i) → masked p f ≡ masked p g

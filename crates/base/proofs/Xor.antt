@@ -2,7 +2,7 @@
 -- Assumes nothing.
 use mathlib.Core.Path.{_≡_, refl, sym, ap, ap₂, _∙_}
 use mathlib.Core.List.{List, [], _∷_, _++_}
-use Prim.Native.Nat.{ℕ, zero, suc, _+_, _*_, _/_, _%_, _<_, _≤_, max}
+use Prim.Native.Nat.{ℕ, zero, suc, _+_, _*_, _/_, _%_, _<_, max}
 use native.Mathlib.Nat.{mod-lt, not-suc-le-zero}
 use native.Mathlib.Omega.{arith}
 use lib.Arith.{bin-ind, digits-mod}
@@ -87,29 +87,12 @@ unfolding xorL
 xorL-nil [] = refl
 xorL-nil (a ∷ s) = refl
 
-pub xorL-comm : (s t : List ℕ) → xorL s t ≡ xorL t s
-unfolding xorL
-xorL-comm [] [] = refl
-xorL-comm [] (b ∷ t) = refl
-xorL-comm (a ∷ s) [] = refl
-xorL-comm (a ∷ s) (b ∷ t) = ap₂ (λ (x : ℕ) (l : List ℕ). x ∷ l) (xor-comm a b) (xorL-comm s t)
-
 pub xorL-assoc : (s t u : List ℕ) → xorL (xorL s t) u ≡ xorL s (xorL t u)
 unfolding xorL
 xorL-assoc [] t u = refl
 xorL-assoc (a ∷ s) [] u = refl
 xorL-assoc (a ∷ s) (b ∷ t) [] = refl
 xorL-assoc (a ∷ s) (b ∷ t) (c ∷ u) = ap₂ (λ (x : ℕ) (l : List ℕ). x ∷ l) (xor-assoc a b c) (xorL-assoc s t u)
-
--- a string no longer than the first, twice
-pub xorL-twice : (s t : List ℕ) → length t ≤ length s → xorL (xorL s t) t ≡ s
-unfolding xorL
-xorL-twice [] [] h = refl
-xorL-twice [] (b ∷ t) h = absurd (not-suc-le-zero h)
-xorL-twice (a ∷ s) [] h = refl
-xorL-twice (a ∷ s) (b ∷ t) h =
-    let k : length t ≤ length s = omega arith in
-    ap₂ (λ (x : ℕ) (l : List ℕ). x ∷ l) (xor-twice a b) (xorL-twice s t k)
 
 -- one byte more of a string that is not longer than the first
 pub xorL-snoc : (s t : List ℕ) (b : ℕ) → length t < length s

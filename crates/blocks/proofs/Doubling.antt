@@ -12,7 +12,7 @@ use borrow.Author.Tests.{lt-ltb, le-ltb}
 use Rattle.base.specs.Bytes.{pick, at, _⊕_, xorL, AreBytes}
 use Rattle.base.proofs.Tab.{length-tab, tab-all}
 use Rattle.base.proofs.Parts.{bytes-xorL, bytes-replicate, bytes-append, bytes-cons, bytes-nil, xorL-zeros}
-use Rattle.base.proofs.Xor.{length-xorL, xorL-nil, xorL-snoc}
+use Rattle.base.proofs.Xor.{xorL-nil, xorL-snoc}
 use Rattle.blocks.specs.Doubling.{constRb, shiftedAt, shifted, doubled}
 
 -- what both of two have, the one picked has
@@ -31,12 +31,6 @@ shifted-byte x h = tab-all (λ (n : ℕ). n < 256) 16 (shiftedAt x) (omega arith
 rb-byte : AreBytes constRb
 rb-byte =
     bytes-append (replicate 15 0) (0x87 ∷ []) (bytes-replicate 15 0 (omega arith)) (bytes-cons 0x87 [] (omega arith) bytes-nil)
-
-pub doubled-long : (x : List ℕ) → length (doubled x) ≡ 16
-unfolding doubled
-doubled-long x =
-    picked (λ (l : List ℕ). length l ≡ 16) (ltb (at x 0) 128) (shifted x) (xorL (shifted x) constRb) (shifted-long x)
-    (omega (arith, length-xorL (shifted x) constRb, shifted-long x))
 
 pub doubled-byte : (x : List ℕ) → AreBytes x → AreBytes (doubled x)
 unfolding doubled

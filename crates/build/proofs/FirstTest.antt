@@ -53,11 +53,6 @@ none-fails ((false, n) ∷ ts) d e =
     let r : T (both (fresh n ts) (distinct ts)) = both-right (not (eqb n 0)) (both (fresh n ts) (distinct ts)) d in
     (refl, none-fails ts (both-right (fresh n ts) (distinct ts) r) e)
 
-pub fails-none : (ts : List (Bool × ℕ)) → AllFail ts → firstOf ts ≡ 0
-fails-none [] h = refl
-fails-none ((true, n) ∷ ts) h = let z : _≡_ {A = ℕ} 0 1 = cc in absurd (omega arith)
-fails-none ((false, n) ∷ ts) h = fails-none ts (h .1)
-
 -- ---- the first that holds
 
 -- a number that is none of theirs is not given, 0 aside

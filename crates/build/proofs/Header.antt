@@ -37,9 +37,6 @@ module _ (d : DataParts) (four : length (d .«dev_addr») ≡ 4) where
       mhdrOf (d .confirmed) (d .uplink) ∷ (a ++ (d .fctrl + n) ∷ (d .fcnt % 256) ∷ (d .fcnt / 256 % 256) ∷ []))
       (tab-at (d .«dev_addr») 4 four)
 
-  pub length-fixed : (n : ℕ) → length (fixedHeader d n) ≡ 8
-  length-fixed n = ap length (fixed-eight n)
-
   -- the whole header, its first eight bytes written out
   pub header-eight : (commands : List ℕ)
       → dataHeader d commands

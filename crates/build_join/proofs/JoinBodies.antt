@@ -148,13 +148,6 @@ seven e = omega arith
 
 -- ---- clear bytes are bytes
 
-pub request-byte : (j : JoinRequestParts) → AreBytes (j .«app_eui») → AreBytes (j .«dev_eui») → AreBytes (j .«dev_nonce»)
-    → AreBytes (joinRequestBody j)
-unfolding joinRequestBody
-request-byte j ha hd hn =
-    bytes-append (0 ∷ j .«app_eui» ++ j .«dev_eui») (j .«dev_nonce»)
-    (bytes-append (0 ∷ j .«app_eui») (j .«dev_eui») (bytes-cons 0 (j .«app_eui») (omega arith) ha) hd) hn
-
 list-byte : (channels : List ℕ) → AreBytes (cfListBytes channels)
 unfolding cfListBytes
 list-byte channels = each (cfListBytes channels) (omega arith)

@@ -6,8 +6,8 @@ use mathlib.Core.Path.{_≡_, refl, sym, ap, ap₂, _∙_}
 use mathlib.Core.List.{List, [], _∷_, _++_, append-nil, append-assoc}
 use Prim.Native.Nat.{ℕ, zero, suc, _+_, _*_, _-_, _≤_, _<_}
 use native.Mathlib.Omega.{arith}
-use lib.ListN.{length, take, drop, set, replicate, length-append, length-drop, take-append-drop}
-use lib.Seq.{take-append-le, drop-append-le, drop-at, take-all, take-set-le, drop-cons, drop-length, length-take-le}
+use lib.ListN.{length, take, drop, replicate, length-append, length-drop, take-append-drop}
+use lib.Seq.{take-append-le, drop-append-le, drop-at, take-all, drop-cons, drop-length, length-take-le}
 use lib.Dec.{ltb}
 use borrow.Author.Tests.{lt-ltb, le-ltb, ltb-true, ltb-false}
 use Rattle.base.specs.Bytes.{at, part, xorL, AreBytes}
@@ -65,10 +65,6 @@ chain-same ks m m′ i e j h =
 pub chain-append : (ks m p : List ℕ) (i : ℕ) → 16 * i ≤ length m → chain ks (m ++ p) i ≡ chain ks m i
 chain-append ks m p i h = chain-same ks (m ++ p) m i (take-append-le (16 * i) m p h) i (omega arith)
 
--- nor does a byte that is put in behind them
-pub chain-set : (ks m : List ℕ) (at b i : ℕ) → 16 * i ≤ at → chain ks (set m at b) i ≡ chain ks m i
-chain-set ks m at b i h = chain-same ks (set m at b) m i (take-set-le (16 * i) m at b h) i (omega arith)
-
 -- ---- the tag
 
 -- the blocks before the last, by the length
@@ -83,12 +79,6 @@ ahead-low m = omega arith
 pub ahead-high : (m : List ℕ) → length m ≤ 16 * ahead m + 16
 unfolding ahead
 ahead-high m = omega arith
-
--- the tag of a message whose last block begins at 16 * n, from the chain value there
-pub tag-last : (ks m : List ℕ) (n : ℕ) → 16 * n < length m → length m ≤ 16 * n + 16
-    → tag ks m ≡ closed ks (chain ks m n) (drop (16 * n) m)
-unfolding tag
-tag-last ks m n h k = ap (λ (i : ℕ). closed ks (chain ks m i) (drop (16 * i) m)) (ahead-is m n h k)
 
 pub closed-long : (ks x last : List ℕ) → length (closed ks x last) ≡ 16
 unfolding closed

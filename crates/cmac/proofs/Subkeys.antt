@@ -1,28 +1,18 @@
--- The subkeys are sixteen bytes.
+-- The subkeys are bytes.
 -- Assumes nothing.
-use mathlib.Core.Path.{_≡_}
 use mathlib.Core.List.{List}
 use Prim.Native.Nat.{ℕ}
 use native.Mathlib.Omega.{arith}
-use lib.ListN.{length}
 use Rattle.base.specs.Bytes.{AreBytes}
 use Rattle.base.proofs.Parts.{bytes-replicate}
 use Rattle.blocks.specs.Doubling.{zeros}
-use Rattle.blocks.proofs.Doubling.{doubled-long, doubled-byte}
+use Rattle.blocks.proofs.Doubling.{doubled-byte}
 use Rattle.aes.specs.Fips197.{cipher}
 use Rattle.aes.proofs.Laws.{cipher-byte}
 use Rattle.cmac.specs.Rfc4493.{subkey1, subkey2}
 
 zeros-byte : AreBytes zeros
 zeros-byte = bytes-replicate 16 0 (omega arith)
-
-pub subkey1-long : (ks : List ℕ) → length (subkey1 ks) ≡ 16
-unfolding subkey1
-subkey1-long ks = doubled-long (cipher ks zeros)
-
-pub subkey2-long : (ks : List ℕ) → length (subkey2 ks) ≡ 16
-unfolding subkey2
-subkey2-long ks = doubled-long (subkey1 ks)
 
 pub subkey1-byte : (ks : List ℕ) → AreBytes ks → AreBytes (subkey1 ks)
 unfolding subkey1

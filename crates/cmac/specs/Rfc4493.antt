@@ -2,7 +2,7 @@
 -- (section 2.4). ks is the key schedule, so that AES-128(K, x) is cipher ks x; m is the message. The blocks of the message
 -- go by their index.
 -- Assumes nothing.
-use mathlib.Core.List.{List, [], _∷_, _++_}
+use mathlib.Core.List.{List, _∷_, _++_}
 use Prim.Native.Nat.{ℕ, zero, suc, _*_, _-_, _/_}
 use lib.ListN.{length, take, drop, replicate}
 use lib.Dec.{ltb}

@@ -36,18 +36,6 @@ placed f h =
       mic = omega arith;
     }
 
--- where a port is reported, at least one byte of payload follows the header, which ends past the port
-pub port-then-payload : (f : List ℕ) → fhdrLength f + 6 < length f → (headerEnd f ≡ payloadStart f) × (payloadStart f < payloadEnd f)
-port-then-payload f h = (omega arith, omega arith)
-
--- where there is a payload, even an empty one, it starts past the port
-pub start-is-header-end : (f : List ℕ) → fhdrLength f + 6 ≤ length f → headerEnd f ≡ payloadStart f
-start-is-header-end f h = omega arith
-
--- where there is none, the header is all but the MIC
-pub none-is-all-header : (f : List ℕ) → length f < fhdrLength f + 6 → headerEnd f ≡ payloadEnd f
-none-is-all-header f h = omega arith
-
 -- ---- parts
 
 pub length-header : (f : List ℕ) → length (header f) ≡ headerEnd f
@@ -56,9 +44,6 @@ length-header f = length-take (headerEnd f) f ∙ omega arith
 pub length-payload : (f : List ℕ) → length (payload f) ≡ payloadEnd f - headerEnd f
 length-payload f =
     length-take (payloadEnd f - headerEnd f) (drop (headerEnd f) f) ∙ omega (arith, length-drop (headerEnd f) f)
-
-pub length-mic : (f : List ℕ) → 4 ≤ length f → length (micOf f) ≡ 4
-length-mic f h = length-drop (length f - 4) f ∙ omega arith
 
 -- header, payload and MIC are the frame
 pub parts : (f : List ℕ) → header f ++ (payload f ++ micOf f) ≡ f

@@ -1,20 +1,18 @@
 -- Laws on decrypting a join-accept: a block, and the bytes from 1 on, that are lent, done and put back give the definition; the
--- length and byte 0 stay, and bytes give bytes.
+-- length and byte 0 stay.
 -- Assumes nothing.
 use mathlib.Core.Path.{_≡_, refl, sym, ap, ap₂, _∙_}
 use mathlib.Core.List.{List, [], _∷_, _++_, append-nil}
-use Prim.Native.Nat.{ℕ, zero, suc, _+_, _-_, _*_, _/_, _≤_, _<_}
+use Prim.Native.Nat.{ℕ, _+_, _-_, _*_, _/_, _≤_, _<_}
 use native.Mathlib.Nat.{not-suc-le-zero}
 use native.Mathlib.Omega.{arith}
 use lib.ListN.{length, take, drop, length-append, length-drop, take-append-drop, drop-of-length-le}
 use lib.Seq.{sets, sets-eq, take-all}
-use Rattle.base.specs.Bytes.{at, part, AreBytes}
+use Rattle.base.specs.Bytes.{at, part}
 use Rattle.base.proofs.Lent.{put-back}
-use Rattle.base.proofs.Parts.{bytes-append, bytes-take, bytes-drop}
 use Rattle.schedule.specs.Expansion.{keyExpansion}
 use Rattle.aes.specs.Fips197.{cipher}
-use Rattle.schedule.proofs.Laws.{schedule-byte}
-use Rattle.aes.proofs.Laws.{cipher-long, cipher-byte}
+use Rattle.aes.proofs.Laws.{cipher-long}
 use Rattle.join_accept.specs.JoinAccept.{eachBlock, fromOne, acceptDecrypted}
 use Rattle.join_accept.proofs.Blocks.{Blocking, step, blocks-long}
 
@@ -61,25 +59,9 @@ lent-from-one key f t h e =
     ap₂ (λ (x y : List ℕ). take 1 f ++ (x ++ y)) (e ∙ ap (λ (p : List ℕ). eachBlock g (length p / 16) p) whole) none
     ∙ ap (λ (l : List ℕ). take 1 f ++ l) (append-nil (eachBlock g (length (drop 1 f) / 16) (drop 1 f)))
 
--- ---- what stays, and that it is bytes
+-- ---- what stays
 
 pub clear-first : (key f : List ℕ) → 1 ≤ length f → at (acceptDecrypted key f) 0 ≡ at f 0
 unfolding acceptDecrypted
 clear-first key [] h = absurd (not-suc-le-zero h)
 clear-first key (a ∷ f) h = refl
-
-blocks-byte : (g : List ℕ → List ℕ) → ((s : List ℕ) → AreBytes s → AreBytes (g s)) → (n : ℕ) (s : List ℕ) → AreBytes s
-    → AreBytes (eachBlock g n s)
-unfolding eachBlock
-blocks-byte g byte zero s h = h
-blocks-byte g byte (suc n) s h =
-    bytes-append (g (take 16 s)) (eachBlock g n (drop 16 s)) (byte (take 16 s) (bytes-take 16 s h))
-    (blocks-byte g byte n (drop 16 s) (bytes-drop 16 s h))
-
-pub clear-byte : (key f : List ℕ) → AreBytes key → AreBytes f → AreBytes (acceptDecrypted key f)
-unfolding acceptDecrypted
-clear-byte key f hk hf =
-    let w = keyExpansion key in
-    bytes-append (take 1 f) (eachBlock (cipher w) (length (drop 1 f) / 16) (drop 1 f)) (bytes-take 1 f hf)
-    (blocks-byte (cipher w) (λ s. cipher-byte w s (schedule-byte key hk)) (length (drop 1 f) / 16) (drop 1 f)
-    (bytes-drop 1 f hf))

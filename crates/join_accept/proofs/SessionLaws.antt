@@ -1,4 +1,4 @@
--- Laws on the session keys: the block that is enciphered, byte for byte, a key from what the calls on the way gave, and its length.
+-- Laws on the session keys: the block that is enciphered, byte for byte, and a key from what the calls on the way gave.
 -- Assumes nothing.
 use mathlib.Core.Path.{_≡_, ap, ap₂, _∙_}
 use mathlib.Core.List.{List}
@@ -8,7 +8,6 @@ use Rattle.base.specs.Bytes.{tab, at, part}
 use Rattle.base.proofs.Tab.{tab-at}
 use Rattle.schedule.specs.Expansion.{keyExpansion}
 use Rattle.aes.specs.Fips197.{cipher}
-use Rattle.aes.proofs.Laws.{cipher-long}
 use Rattle.join_accept.specs.Session.{keyBlock, sessionKey}
 use Rattle.join_accept.specs.declared.SessionKeys.{SessionKeys}
 
@@ -27,7 +26,3 @@ session-key first key nonce f ha hi hw hb hk =
 
 abbrev pub keysOf : List ℕ → List ℕ → SessionKeys
 keysOf nwk app = record { number = 0; place = 0; «nwk_skey» = nwk; «app_skey» = app }
-
-pub sessionKey-long : (first : ℕ) (key nonce f : List ℕ) → length (sessionKey first key nonce f) ≡ 16
-unfolding sessionKey
-sessionKey-long first key nonce f = cipher-long (keyExpansion key) (keyBlock first (part 1 3 f) (part 4 3 f) nonce)

@@ -39,19 +39,7 @@ module _ {A : Type 0} (e : ℕ → ℕ → A) where
       absurd (⊎-elim (λ q. omega arith) (λ k. ⊎-elim (λ q. omega arith) (λ q. omega arith) k) h)
   not-data a (Refused n p) h = refl
 
--- where the position is that of the type needed, the reading is of that type
-pub is-request : (r : Reading) → tagOf R.the-type r ≡ 0 → r ≡ JoinRequest
-is-request JoinRequest q = refl
-is-request (JoinAccept n) q = absurd (omega arith)
-is-request (Data d) q = absurd (omega arith)
-is-request (Refused n p) q = absurd (omega arith)
-
-pub is-accept : {X : Type 0} (r : Reading) → tagOf R.the-type r ≡ 1 → ((n : ℕ) → r ≡ JoinAccept n → X) → X
-is-accept JoinRequest q k = absurd (omega arith)
-is-accept (JoinAccept n) q k = k n refl
-is-accept (Data d) q k = absurd (omega arith)
-is-accept (Refused n p) q k = absurd (omega arith)
-
+-- where the position is that of data, the reading is of that type
 pub is-data : {X : Type 0} (r : Reading) → tagOf R.the-type r ≡ 2 → ((d : DataFrame) → r ≡ Data d → X) → X
 is-data JoinRequest q k = absurd (omega arith)
 is-data (JoinAccept n) q k = absurd (omega arith)

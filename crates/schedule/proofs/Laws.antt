@@ -1,11 +1,9 @@
--- What a caller may know of key expansion: its length, and that it gives bytes.
+-- What a caller may know of key expansion: that it gives bytes.
 -- Assumes nothing.
-use mathlib.Core.Path.{_≡_, refl, _∙_}
 use mathlib.Core.List.{List}
 use Prim.Native.Nat.{ℕ, zero, suc, _+_, _-_, _*_, _/_, _%_, _<_}
 use native.Mathlib.Omega.{arith}
 use lib.Dec.{eqb}
-use lib.ListN.{length, length-append}
 use Rattle.base.specs.Bytes.{at, _⊕_, AreBytes}
 use Rattle.base.proofs.AllBytes.{pick-bytes, tab-bytes}
 use Rattle.base.proofs.Parts.{bytes-append}
@@ -13,15 +11,6 @@ use Rattle.base.proofs.Xor.{xor-byte}
 use Rattle.field.specs.Field.{sub}
 use Rattle.field.proofs.FieldLaws.{xtime-byte, sub-byte}
 use Rattle.schedule.specs.Expansion.{word, xorWord, rotWord, subWord, powerOfX, rcon, temp, nextWord, words, keyExpansion}
-
-words-long : (n : ℕ) (key : List ℕ) → length (words n key) ≡ 16 + 4 * n
-unfolding words nextWord
-words-long zero key = refl
-words-long (suc n) key = length-append (words n key) _ ∙ (omega (arith, words-long n key))
-
-pub schedule-long : (key : List ℕ) → length (keyExpansion key) ≡ 176
-unfolding keyExpansion
-schedule-long key = words-long 40 key
 
 powerOfX-byte : (n : ℕ) → powerOfX n < 256
 unfolding powerOfX

@@ -1,38 +1,28 @@
--- Laws on the helper blocks, the key stream and encrypted payloads: lengths and bytes, that what encrypts also decrypts,
+-- Laws on the helper blocks, the key stream and encrypted payloads: lengths, that what encrypts also decrypts,
 -- what one changed byte does, and that only a frame's first five bytes count.
 -- Assumes nothing.
 use mathlib.Core.Path.{_≡_, refl, sym, ap, ap₂, _∙_}
 use mathlib.Core.List.{List, [], _∷_, _++_, append-nil}
 use Prim.Native.Nat.{ℕ, _+_, _-_, _/_, _%_, _<_, _≤_}
-use native.Mathlib.Nat.{mod-lt, not-suc-le-zero, le-of-eq}
+use native.Mathlib.Nat.{not-suc-le-zero, le-of-eq}
 use native.Mathlib.Omega.{arith}
 use lib.ListN.{length, take, drop, set, length-append, length-take, length-drop}
 use Rattle.base.specs.Bytes.{at, part, _⊕_, AreBytes}
 use Rattle.base.specs.Mask.{masked}
-use Rattle.base.proofs.Each.{each}
-use Rattle.base.proofs.Mask.{masked-long, masked-at, masked-byte, masked-same, masked-twice, masked-set}
+use Rattle.base.proofs.Mask.{masked-long, masked-at, masked-same, masked-twice, masked-set}
 use Rattle.base.proofs.Lent.{part-long, same-start, put-back, put-before, put-part, put-after, put-same}
-use Rattle.base.proofs.Parts.{bytes-append}
 use Rattle.schedule.specs.Expansion.{keyExpansion}
 use Rattle.aes.specs.Fips197.{cipher}
-use Rattle.schedule.proofs.Laws.{schedule-byte}
-use Rattle.aes.proofs.Laws.{cipher-byte}
 use Rattle.cmac.specs.Rfc4493.{mac}
 use Rattle.cmac.specs.Running.{started, absorbed, absorbedAll, joined, finished}
 use Rattle.cmac.proofs.Laws.{mac-cutting, mic-long, mic-byte}
-use Rattle.secure.specs.Security.{startOf, helperBlock, blockNumber, streamAt, streamUnder, crypted, cryptedPart, fullCounter, message, dataMic, joinMic}
+use Rattle.secure.specs.Security.{startOf, helperBlock, blockNumber, streamAt, streamUnder, crypted, cryptedPart, message, dataMic, joinMic}
 
 -- ---- the helper block
 
 pub helperBlock-long : (first : ℕ) (f : List ℕ) (counter last : ℕ) → length (helperBlock first f counter last) ≡ 16
 unfolding helperBlock
 helperBlock-long first f counter last = refl
-
-pub helperBlock-byte : (first : ℕ) (f : List ℕ) (counter last : ℕ) → first < 256 → AreBytes f → last < 256
-    → AreBytes (helperBlock first f counter last)
-unfolding helperBlock
-helperBlock-byte first f counter last hf h hl =
-    each (helperBlock first f counter last) (omega (arith, h 1, h 2, h 3, h 4))
 
 -- a helper block takes no more of a frame than its first five bytes
 pub helperBlock-start : (first : ℕ) (f : List ℕ) (counter last : ℕ)
@@ -60,12 +50,6 @@ module _ (f g : List ℕ) (same : take 5 f ≡ take 5 g) where
       ∙ ap (λ (s : List ℕ). helperBlock first s counter last) start-same
       ∙ helperBlock-start first g counter last
 
-  pub streamAt-same : (key : List ℕ) (counter j : ℕ) → streamAt key f counter j ≡ streamAt key g counter j
-  streamAt-same key counter j =
-      sym (streamAt-start key f counter j)
-      ∙ ap (λ (s : List ℕ). streamAt key s counter j) start-same
-      ∙ streamAt-start key g counter j
-
   pub crypted-same : (key : List ℕ) (counter : ℕ) (p : List ℕ) → crypted key f counter p ≡ crypted key g counter p
   crypted-same key counter p =
       sym (crypted-start key f counter p)
@@ -73,12 +57,6 @@ module _ (f g : List ℕ) (same : take 5 f ≡ take 5 g) where
       ∙ crypted-start key g counter p
 
 -- ---- the key stream
-
-pub streamAt-byte : (key f : List ℕ) (counter j : ℕ) → AreBytes key → AreBytes f → streamAt key f counter j < 256
-unfolding streamAt
-streamAt-byte key f counter j hk hf =
-    cipher-byte (keyExpansion key) (helperBlock 1 f counter (blockNumber j)) (schedule-byte key hk)
-    (helperBlock-byte 1 f counter (blockNumber j) (omega arith) hf (mod-lt (j / 16 + 1) (omega arith))) (j % 16)
 
 -- the key stream of a key and a frame is that of the key's schedule and the frame's A block, whatever its last byte
 pub streamUnder-block : (key f : List ℕ) (counter last j : ℕ)
@@ -105,10 +83,6 @@ module _ (key f : List ℕ) (counter : ℕ) where
   pub crypted-at : (p : List ℕ) (j : ℕ) → j < length p → at (crypted key f counter p) j ≡ at p j ⊕ streamAt key f counter j
   unfolding crypted
   crypted-at p j h = masked-at p (streamAt key f counter) j h
-
-  pub crypted-byte : (p : List ℕ) → AreBytes key → AreBytes f → AreBytes p → AreBytes (crypted key f counter p)
-  unfolding crypted
-  crypted-byte p hk hf hp = masked-byte p (streamAt key f counter) hp (λ j. streamAt-byte key f counter j hk hf)
 
   -- what encrypts also decrypts
   pub crypted-twice : (p : List ℕ) → crypted key f counter (crypted key f counter p) ≡ p
@@ -169,18 +143,6 @@ crypted-under key f counter last p =
     masked-same p (streamUnder (keyExpansion key) (helperBlock 1 f counter last)) (streamAt key f counter)
     (λ j l. streamUnder-block key f counter last j)
 
--- ---- the counter
-
--- a counter whose low half is the frame's is the full counter itself
-pub fullCounter-low : (counter : ℕ) → fullCounter counter (counter % 65536) ≡ counter
-unfolding fullCounter
-fullCounter-low counter = omega arith
-
--- document 01, row P14
-pub counter-example : fullCounter 0x0001FFFF 2 ≡ 0x00010002
-unfolding fullCounter
-counter-example = refl
-
 -- ---- the MIC
 
 -- the tag of two parts is that of both in a row
@@ -191,14 +153,6 @@ two-parts key a b = mac-cutting key (a ∷ b ∷ []) ∙ ap (λ (l : List ℕ). 
 pub dataMic-long : (key msg : List ℕ) (counter : ℕ) → length (dataMic key msg counter) ≡ 4
 unfolding dataMic message
 dataMic-long key msg counter = mic-long key (helperBlock 0x49 msg counter (length msg % 256) ++ msg)
-
-pub dataMic-byte : (key msg : List ℕ) (counter : ℕ) → AreBytes key → AreBytes msg → AreBytes (dataMic key msg counter)
-unfolding dataMic message
-dataMic-byte key msg counter hk hm =
-    let block = helperBlock 0x49 msg counter (length msg % 256) in
-    let block-byte : AreBytes block =
-    helperBlock-byte 0x49 msg counter (length msg % 256) (omega arith) hm (mod-lt (length msg) (omega arith)) in
-    mic-byte key (block ++ msg) hk (bytes-append block msg block-byte hm)
 
 pub joinMic-long : (key msg : List ℕ) → length (joinMic key msg) ≡ 4
 unfolding joinMic
