@@ -7,18 +7,13 @@ use amend::Open;
 use libc::STDERR_FILENO;
 use libc::STDIN_FILENO;
 use libc::STDOUT_FILENO;
+use pieces::byte_at;
 use std::num::wrapping_add_usize;
 
 // No record or frame of a case is longer.
 const ROOM: usize = 1000;
 
 // The arguments of a record, by their places. A record that is too short counts as one with zeros behind it.
-fn byte_at(record: &[u8], place: usize) -> u8 {
-    if place < record.len() {
-        return record[place];
-    }
-    0
-}
 
 // The place n bytes after another.
 fn after(place: usize, n: usize) -> usize {

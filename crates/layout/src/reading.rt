@@ -21,21 +21,11 @@ fn mic_place(length: usize) -> usize
     length - MIC_LEN
 }
 
-// The byte at an index, and 0 past the end.
-fn byte_at(frame: &[u8], i: usize) -> u8
-    ensures { λ r. ⌜ r ≡ at (now (frame .entry)) i ⌝ }
-{
-    if i < frame.len() {
-        return frame[i];
-    }
-    0
-}
-
 // A reading in twelve bytes.
 fn field_bytes(frame: &[u8], v: Values) -> [u8; 12]
     ensures { λ r. ⌜ r ≡ fieldsOf (at (now (frame .entry)) 0) (length (now (frame .entry))) v ⌝ }
 {
-    let first = byte_at(frame, 0);
+    let first = pieces::byte_at(frame, 0);
     let mic = mic_place(frame.len());
     [
         first / 32,

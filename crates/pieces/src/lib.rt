@@ -1,9 +1,10 @@
-// Pieces of byte strings that every layer above stores and takes out: a run of bytes from a place on, and a block of
-// sixteen. Both are total: what lies outside is not written, and a block that does not lie inside is all zeros.
+// Pieces of byte strings that every layer above stores and takes out: a run of bytes from a place on, a byte, and a block
+// of sixteen. All are total: what lies outside is not written, and what does not lie inside is read as zeros.
 ghost use mathlib.Core.Path.{_≡_};
 ghost use Prim.Native.Nat.{_+_, _≤_};
 ghost use lib.Dec.{ltb};
 ghost use lib.ListN.{length, take};
+ghost use Rattle.base.specs.Bytes.{at};
 ghost use Rattle.base.proofs.Put.{Put};
 ghost use Rattle.pieces.specs.Pieces.{Stored, blockAt};
 
@@ -44,6 +45,16 @@ pub fn put(out: &mut [u8], at: usize, src: &[u8]) -> usize
         return store(out, at, src, out.len() - at);
     }
     store(out, at, src, src.len())
+}
+
+// The byte at an index, and 0 past the end.
+pub fn byte_at(bytes: &[u8], i: usize) -> u8
+    ensures { λ r. ⌜ r ≡ at (now (bytes .entry)) i ⌝ }
+{
+    if i < bytes.len() {
+        return bytes[i];
+    }
+    0
 }
 
 // The sixteen bytes from `at` on; zeros where there are not so many.

@@ -9,6 +9,7 @@ use denote.Ref.{now}
 use Rattle.base.proofs.Fixed.{Determined, DeterminedLent}
 use Rattle.payload.specs.Opening.{Result}
 use Rattle.pieces.proofs.put.Reads as pieces-put
+use Rattle.pieces.proofs.byte_at.Reads as pieces-byte-at
 use Rattle.pieces.proofs.block_at.Reads as pieces-block-at
 use Rattle.field.proofs.substitution.table.Reads as field-table
 use Rattle.field.proofs.inverse_substitution.table.Reads as field-inverse-table
@@ -112,6 +113,9 @@ one b = b ∷ []
 
 pub pieces-put-determined : DeterminedLent (λ κs s. now (s .0)) pieces-put.Learnt
 pieces-put-determined κs a x y s t p q = (p .next ∙ sym (q .next), p .list ∙ sym (q .list))
+
+pub pieces-byte-at-determined : Determined pieces-byte-at.Learnt
+pieces-byte-at-determined κs a x y s t p q = p ∙ sym q
 
 pub pieces-block-at-determined : Determined pieces-block-at.Learnt
 pieces-block-at-determined κs a x y s t p q = p ∙ sym q

@@ -2,7 +2,6 @@
 ghost use Prim.Native.Nat.{_≤_};
 use crate::input::ROOM;
 use crate::input::after;
-use crate::input::byte_at;
 use crate::input::copy;
 use crate::input::eight_at;
 use crate::input::four_at;
@@ -22,6 +21,7 @@ use build_join::creator::JoinRequestParts;
 use build_join::creator::build_join_accept;
 use build_join::creator::build_join_request;
 use frame::parser::FPort;
+use pieces::byte_at;
 
 // A byte's worth of channels.
 const CHANNELS: usize = 256;

@@ -1,6 +1,7 @@
 // The arguments of a record, by their places. A record that is too short counts as one with zeros behind it.
 ghost use Prim.Native.Nat.{_≤_};
 use frame::keys::MaybeKey;
+use pieces::byte_at;
 use std::num::wrapping_add_usize;
 
 // No record, frame or output of a case is longer.
@@ -12,13 +13,6 @@ pub fn length_of(low: u8, high: u8) -> usize
 {
     let n = (low as usize) + (high as usize) * 256;
     if n < ROOM { n } else { ROOM }
-}
-
-pub fn byte_at(record: &[u8], place: usize) -> u8 {
-    if place < record.len() {
-        return record[place];
-    }
-    0
 }
 
 // The place n bytes after another.

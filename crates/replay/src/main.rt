@@ -15,7 +15,7 @@ mod reading;
 
 // The call that a record tells of.
 fn answer(record: &[u8]) {
-    match input::byte_at(record, 0) {
+    match pieces::byte_at(record, 0) {
         9 => building::join_request(record),
         10 => building::join_accept(record),
         11 => building::data(record),

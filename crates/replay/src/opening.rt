@@ -1,7 +1,6 @@
 // Kinds 1 to 8: MIC tests, decryption, session keys. Each has its frame behind arguments of a fixed length.
 use crate::input::ROOM;
 use crate::input::after;
-use crate::input::byte_at;
 use crate::input::copy;
 use crate::input::key_at;
 use crate::input::length_at;
@@ -12,6 +11,7 @@ use crate::output::put;
 use crate::output::put_all;
 use payload::MicTest;
 use payload::Opening;
+use pieces::byte_at;
 
 // Where the frame's length stands, by the kind.
 fn frame_place(kind: u8) -> usize {

@@ -8,16 +8,6 @@ ghost use Rattle.base.specs.Mask.{masked};
 ghost use Rattle.cmac.specs.Rfc4493.{mic};
 ghost use Rattle.secure.specs.Security.{startOf, helperBlock, blockNumber, streamUnder, crypted, fullCounter, dataMic, joinMic};
 
-// The byte at an index, and 0 past the end.
-fn byte_or_zero(bytes: &[u8], i: usize) -> u8
-    ensures { λ r. ⌜ r ≡ at (now (bytes .entry)) i ⌝ }
-{
-    if i < bytes.len() {
-        return bytes[i];
-    }
-    0
-}
-
 // MHDR and DevAddr of a frame: what a helper block takes of it.
 pub fn start_of(frame: &[u8]) -> [u8; 5]
     ensures { λ r. ⌜ r ≡ startOf (now (frame .entry)) ⌝ }
@@ -25,7 +15,7 @@ pub fn start_of(frame: &[u8]) -> [u8; 5]
     let mut start = [0u8; 5];
     let mut i: usize = 0;
     while i < 5 {
-        start[i] = byte_or_zero(frame, i);
+        start[i] = pieces::byte_at(frame, i);
         i += 1;
     }
     start

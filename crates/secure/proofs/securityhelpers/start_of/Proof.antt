@@ -17,7 +17,7 @@ loop-holds : tie.Need-loop-holds Inv-loop μ-loop
 loop-holds c = start 5 _ _ (search needs)
 
 loop-again : tie.Need-loop-again Inv-loop μ-loop
-loop-again c = step (c .before .before .loop .inv) (search needs) (c .byte-or-zero .ensures)
+loop-again c = step (c .before .before .loop .inv) (search needs) (c .byte-at .ensures)
 
 returns : tie.Need-returns Inv-loop μ-loop
 returns c = done (c .before .loop .inv) (search needs)

@@ -3,11 +3,11 @@
 use borrow.Author.Needs.{needs}
 use mathlib.Core.Path.{sym}
 use Rattle.base.proofs.Tab.{at-past}
-use Rattle.layout.proofs.reading.byte_at.Statement.{statement}
-use Rattle.layout.proofs.reading.byte_at.Tie as tie
+use Rattle.pieces.proofs.byte_at.Statement.{statement}
+use Rattle.pieces.proofs.byte_at.Tie as tie
 
 past : tie.Need-returns-2
-past c = sym (at-past (c .before .args .frame .now) _ (c .if1 .left))
+past c = sym (at-past (c .before .args .bytes .now) _ (c .if1 .left))
 
 pub byte-at-spec : {M : Type 1} → statement M
 byte-at-spec = tie.close (tie.spec (λ c. search needs) (λ c. search needs) past)
