@@ -1,4 +1,4 @@
-"""LoRaWAN 1.0 frames by the project's scope document and LoRaWAN 1.0, for making right answers.
+"""LoRaWAN 1.0 frames by docs/RULES.md and LoRaWAN 1.0, for making right answers.
 
 Nothing here is shared with the codec: the cipher and the MAC are OpenSSL's, the rest is written from the
 documents, plainly and without regard to speed. A frame is `bytes`; a call that the codec makes on a lent slice

@@ -1,7 +1,7 @@
 #!/usr/bin/env python3
-"""Lays recorded cases and their right answers beside the programs that replay them.
+"""Lays the recorded cases and their right answers beside the program that replays them.
 
-Run: python3 tools/oracle/record.py; it takes a program's lists, one after the other, and writes its files stdin and stdout.
+Run: python3 tools/oracle/record.py; it takes all lists, one after the other, and writes crates/replay/stdin and stdout.
 The answers are the oracle's (out/) and the original crate's (host/recorded/): no program of this repository is asked.
 """
 
@@ -11,30 +11,22 @@ import records
 
 HERE = pathlib.Path(__file__).resolve().parent
 ROOT = HERE.parent.parent
-ORACLE, CRATE = HERE / "out", ROOT / "host" / "recorded"
-READ_OPENED_BUILT = ("opened", "built", "read")
-LISTS = {
-    "replay": [(folder, name) for folder in (ORACLE, CRATE) for name in READ_OPENED_BUILT],
-    "amended": [(ORACLE, "amended")],
-}
+ORACLE, CRATE, PROGRAM = HERE / "out", ROOT / "host" / "recorded", ROOT / "crates" / "replay"
+LISTS = [(folder, name) for folder in (ORACLE, CRATE) for name in ("opened", "built", "read")] + [(ORACLE, "amended")]
 
 
 def cases(folder, name):
-    """The bodies of a list and the lines of its answers, which the oracle must still give."""
+    """The bodies of a list, whose recorded answers the oracle must still give."""
     bodies = records.read_file((folder / f"{name}.stdin").read_bytes())
-    text = (folder / f"{name}.stdout").read_text()
-    assert records.answers(bodies) == text, name
-    return bodies, text.splitlines()[:-1]
+    assert records.answers(bodies) == (folder / f"{name}.stdout").read_text(), name
+    return bodies
 
 
 def main():
-    for program, lists in LISTS.items():
-        read = [cases(folder, name) for folder, name in lists]
-        bodies = [body for some, _ in read for body in some]
-        lines = [line for _, some in read for line in some]
-        (ROOT / "crates" / program / "stdin").write_bytes(records.write_file(bodies))
-        (ROOT / "crates" / program / "stdout").write_text("\n".join(lines + [f"{len(bodies)} cases"]) + "\n")
-        print(f"{program}: {len(bodies)} cases")
+    bodies = [body for folder, name in LISTS for body in cases(folder, name)]
+    (PROGRAM / "stdin").write_bytes(records.write_file(bodies))
+    (PROGRAM / "stdout").write_text(records.answers(bodies))
+    print(f"{len(bodies)} cases")
 
 
 main()

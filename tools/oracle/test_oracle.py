@@ -1,4 +1,4 @@
-"""Published vectors, the crate's documentation, the scope document's examples, and the written files.
+"""Published vectors, the crate's documentation, the examples of docs/RULES.md, and the written files.
 
 Run: python3 tools/oracle/test_oracle.py
 """
@@ -77,8 +77,8 @@ class Documented(unittest.TestCase):
         self.assertEqual(oracle.build_data(fields, b"", b"hello", network, application, 255), frame)
 
 
-class Scope(unittest.TestCase):
-    """The rows of the scope document's table of examples."""
+class Rules(unittest.TestCase):
+    """The rows of docs/RULES.md, "Examples"."""
 
     def frame(self, first, length, **at):
         frame = bytearray([first] + [0xEE] * (length - 1))

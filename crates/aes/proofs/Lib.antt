@@ -1,6 +1,11 @@
+pub mod CipherLaws
 pub mod Column
-pub mod Laws
+pub mod ExpansionLaws
+pub mod FieldLaws
+pub mod Inverses
 pub mod Linear
 pub mod Lookup
 pub mod Rounds
+pub mod ScheduleGrowing
+pub mod Tables
 pub mod Undone

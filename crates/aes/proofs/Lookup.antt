@@ -5,8 +5,8 @@ use mathlib.Core.List.{List}
 use Prim.Native.Nat.{ℕ}
 use Rattle.base.specs.Bytes.{at, AreBytes}
 use Rattle.base.proofs.Tab.{tab-ext}
-use Rattle.field.specs.Field.{sub, invSub, sBox, invSBox}
-use Rattle.field.proofs.Tables.{sBox-entry, invSBox-entry}
+use Rattle.aes.specs.Field.{sub, invSub, sBox, invSBox}
+use Rattle.aes.proofs.Tables.{sBox-entry, invSBox-entry}
 use Rattle.aes.specs.Fips197.{looked, subBytes, invSubBytes}
 
 pub looked-sBox : (s : List ℕ) → AreBytes s → looked sBox s ≡ subBytes s

@@ -1,11 +1,11 @@
 -- AES-128 from FIPS 197, over lists of bytes. A state is its 16 bytes in the order of input and output, so that the
--- byte in row r and column c stands at r + 4 c (3.4); a schedule is the bytes of its 44 words. Key expansion (5.2) is the
--- crate schedule's.
+-- byte in row r and column c stands at r + 4 c (3.4); a schedule is the bytes of its 44 words. Key expansion (5.2) is in
+-- KeyExpansion.antt.
 -- Assumes nothing.
 use mathlib.Core.List.{List}
 use Prim.Native.Nat.{ℕ, zero, suc, _+_, _-_, _*_, _/_, _%_}
 use Rattle.base.specs.Bytes.{tab, at, _⊕_}
-use Rattle.field.specs.Field.{mul, sub, invSub}
+use Rattle.aes.specs.Field.{mul, sub, invSub}
 
 -- ---- 5.1: the four steps of a round
 

@@ -1,1 +1,3 @@
+pub mod Field
 pub mod Fips197
+pub mod KeyExpansion

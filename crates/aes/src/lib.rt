@@ -1,11 +1,13 @@
 // AES-128 both ways, by FIPS 197: a block under a schedule or under a key.
 ghost use mathlib.Core.Path.{_≡_};
 ghost use Prim.Native.Nat.{_<_};
-ghost use Rattle.field.specs.Field.{sBox, invSBox};
-ghost use Rattle.schedule.specs.Expansion.{keyExpansion};
+ghost use Rattle.aes.specs.Field.{sBox, invSBox};
+ghost use Rattle.aes.specs.KeyExpansion.{keyExpansion};
 ghost use Rattle.aes.specs.Fips197.{round, cipher, invRound, invCipher};
 
 mod columns;
+mod field;
+pub mod key_expansion;
 mod steps;
 
 fn one_round(table: &[u8; 256], schedule: &[u8; 176], r: usize, s: [u8; 16]) -> [u8; 16]
@@ -57,13 +59,13 @@ pub fn decrypt_under(schedule: &[u8; 176], block: [u8; 16]) -> [u8; 16]
 pub fn encrypt(key: [u8; 16], block: [u8; 16]) -> [u8; 16]
     ensures { λ r. ⌜ r ≡ cipher (keyExpansion key) block ⌝ }
 {
-    let schedule = schedule::expand(key);
+    let schedule = key_expansion::expand(key);
     encrypt_under(&schedule, block)
 }
 
 pub fn decrypt(key: [u8; 16], block: [u8; 16]) -> [u8; 16]
     ensures { λ r. ⌜ r ≡ invCipher (keyExpansion key) block ⌝ }
 {
-    let schedule = schedule::expand(key);
+    let schedule = key_expansion::expand(key);
     decrypt_under(&schedule, block)
 }

@@ -1,7 +1,7 @@
 // The steps of a round and their inverses, each of which makes a new state of 16 bytes.
 ghost use mathlib.Core.Path.{_≡_};
 ghost use Prim.Native.Nat.{_≤_};
-ghost use Rattle.field.specs.Field.{sBox, invSBox};
+ghost use Rattle.aes.specs.Field.{sBox, invSBox};
 ghost use Rattle.aes.specs.Fips197.{subBytes, shiftRows, addRoundKey};
 ghost use Rattle.aes.specs.Fips197.{looked, invSubBytes, invShiftRows};
 

@@ -18,13 +18,13 @@ use Rattle.base.proofs.Cases.{by-order}
 use Rattle.base.proofs.Lent.{part-long}
 use Rattle.base.proofs.Parts.{part-take, at-part}
 use Rattle.aes.specs.Fips197.{cipher}
-use Rattle.aes.proofs.Laws.{cipher-long}
-use Rattle.blocks.specs.Doubling.{zeros}
+use Rattle.aes.proofs.CipherLaws.{cipher-long}
+use Rattle.cmac.specs.Doubling.{constZero}
 use Rattle.cmac.specs.Rfc4493.{chain, tag}
 use Rattle.cmac.specs.Running.{resumed, absorbed, finished}
-use Rattle.cmac.proofs.Laws.{chain-suc, chain-long, resume}
-use Rattle.amend.specs.Amending.{lastBlock, chained, signedFrom}
-use Rattle.amend.specs.Opening.{chainsOf}
+use Rattle.cmac.proofs.CmacLaws.{chain-suc, chain-long, resume}
+use Rattle.amend.specs.Amending.{lastPlace, chained, signedFrom}
+use Rattle.amend.specs.OpenFrame.{chainsOf}
 use Rattle.amend.proofs.Stores.{part-before, part-after, part-stored, drop-take}
 
 -- place i holds the chain value of the message m ahead of the frame's block i
@@ -142,9 +142,9 @@ module _ (ks m : List ℕ) (last : ℕ) where
       ∙ ap (λ (t : Bool). pick t (at (chain ks m (i + 1)) k) 0) (le-leb i last l))
 
   -- and past the last one it has zeros
-  pub table-rest : (i : ℕ) → i < 16 → last < i → part (16 * i) 16 (chainsOf ks m last) ≡ zeros
+  pub table-rest : (i : ℕ) → i < 16 → last < i → part (16 * i) 16 (chainsOf ks m last) ≡ constZero
   table-rest i h l =
-      same-at 16 (part (16 * i) 16 (chainsOf ks m last)) zeros
+      same-at 16 (part (16 * i) 16 (chainsOf ks m last)) constZero
       (part-long (16 * i) 16 (chainsOf ks m last) (omega (arith, chainsOf-long ks m last)))
       refl
       (λ k b.
@@ -157,7 +157,7 @@ module _ (ks m : List ℕ) (last : ℕ) where
 
   -- a string of 256 bytes that is right up to the last place and has zeros behind is the table
   pub table : (s : List ℕ) → length s ≡ 256 → ((i : ℕ) → i ≤ last → Right ks m s i)
-      → ((i : ℕ) → i < 16 → last < i → part (16 * i) 16 s ≡ zeros) → s ≡ chainsOf ks m last
+      → ((i : ℕ) → i < 16 → last < i → part (16 * i) 16 s ≡ constZero) → s ≡ chainsOf ks m last
   table s long right rest =
       same-at 256 s (chainsOf ks m last) long (chainsOf-long ks m last)
       (λ j b.
@@ -174,7 +174,7 @@ module _ (ks m : List ℕ) (last : ℕ) where
 
   -- carrying on from a right place gives the table
   pub carried-table : (f chains : List ℕ) (i : ℕ) → length chains ≡ 256 → i ≤ last → last ≤ 15
-      → ((j : ℕ) → j ≤ i → Right ks m chains j) → ((j : ℕ) → j < 16 → last < j → part (16 * j) 16 chains ≡ zeros)
+      → ((j : ℕ) → j ≤ i → Right ks m chains j) → ((j : ℕ) → j < 16 → last < j → part (16 * j) 16 chains ≡ constZero)
       → ((j : ℕ) → i ≤ j → j < last → part (16 * j) 16 f ≡ part (16 * (j + 1)) 16 m)
       → chained ks f (last - i) i chains ≡ chainsOf ks m last
   carried-table f chains i long h top right rest blocks =
@@ -203,11 +203,11 @@ block-behind b f n j e h =
 
 -- the MIC from the last chain value is that of the message
 pub signed-right : (ks b f : List ℕ) (n : ℕ) (chains : List ℕ) → length b ≡ 16 → 0 < n → n ≤ length f
-    → Right ks (b ++ take n f) chains (lastBlock n) → signedFrom ks f n chains ≡ take 4 (tag ks (b ++ take n f))
+    → Right ks (b ++ take n f) chains (lastPlace n) → signedFrom ks f n chains ≡ take 4 (tag ks (b ++ take n f))
 unfolding signedFrom
 signed-right ks b f n chains e h k r =
     let m = b ++ take n f in
-    let last = lastBlock n in
+    let last = lastPlace n in
     let place : length b + 16 * last ≡ 16 * (last + 1) = omega arith in
     let long : length m ≡ 16 + n = length-append b (take n f) ∙ (omega (arith, length-take-le n f k)) in
     let behind : part (16 * last) (n - 16 * last) f ≡ drop (16 * (last + 1)) m =

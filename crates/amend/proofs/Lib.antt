@@ -1,4 +1,10 @@
+pub mod Accepted
+pub mod Carrying
 pub mod Chains
+pub mod Demand3
+pub mod ListLaws
+pub mod OneByte
 pub mod OpeningLaws
+pub mod Sealed
 pub mod Stores
 pub mod Within

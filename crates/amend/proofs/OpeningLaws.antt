@@ -7,36 +7,36 @@ use mathlib.Core.List.{List, [], _∷_, _++_}
 use Prim.Native.Nat.{ℕ, _+_, _-_, _*_, _%_, _≤_, _<_}
 use native.Mathlib.Omega.{arith}
 use lib.ListN.{length, take, drop, replicate, length-replicate, getD-replicate, length-drop}
-use lib.Seq.{sets, sets-eq, length-sets, getD-drop, take-at, take-take, length-take-le}
+use lib.Seq.{sets, sets-eq, length-sets, getD-drop, take-at}
 use borrow.Author.Tests.{eq-eqb, ne-eqb}
 use denote.Enum.Declared.{tagOf}
 use types.Run.{OneOf}
-use Rattle.base.specs.Bytes.{pick, at, part, xorL}
-use Rattle.base.proofs.Tab.{tab-at, same-at}
+use Rattle.base.specs.Bytes.{pick, part, xorL}
+use Rattle.base.proofs.Tab.{same-at}
 use Rattle.base.proofs.Lent.{part-long}
 use Rattle.base.proofs.Parts.{at-part}
-use Rattle.schedule.specs.Expansion.{keyExpansion}
+use Rattle.aes.specs.KeyExpansion.{keyExpansion}
 use Rattle.aes.specs.Fips197.{cipher}
-use Rattle.aes.proofs.Laws.{cipher-long}
-use Rattle.blocks.specs.Compared.{sameBytes}
-use Rattle.blocks.specs.Doubling.{zeros}
-use Rattle.cmac.specs.Rfc4493.{chain, mac, mic}
-use Rattle.cmac.proofs.Laws.{chain-zero, chain-suc}
+use Rattle.aes.proofs.CipherLaws.{cipher-long}
+use Rattle.frame_security.specs.Mic.{mic, sameBytes}
+use Rattle.cmac.specs.Doubling.{constZero}
+use Rattle.cmac.specs.Rfc4493.{chain, mac}
+use Rattle.cmac.proofs.CmacLaws.{chain-zero, chain-suc}
 use Rattle.frame.specs.Conditions.{IsData}
 use Rattle.frame.specs.Layout.{fcnt, micOf}
-use Rattle.numbers.specs.Numbers.{otherNumber, placeOf, onData}
+use Rattle.frame.specs.ReadingNumbers.{otherRefusal, onData}
 use Rattle.frame.specs.Reading.{dataOf, readOf}
 use Rattle.frame.specs.declared.parser.DataFrame.{DataFrame}
 use Rattle.frame.specs.declared.parser.Reading.the-variants.{Data}
-use Rattle.numbers.proofs.Others.{not-data}
+use Rattle.frame.proofs.Others.{not-data}
 use Rattle.frame.proofs.ReadingLaws.{reads-data, data-fields}
 use Rattle.frame.proofs.parser.Reading as R
-use Rattle.secure.specs.Security.{startOf, helperBlock, dataMic}
-use Rattle.secure.proofs.SecurityLaws.{helperBlock-long, helperBlock-start, helperBlock-same}
-use Rattle.amend.specs.Amending.{state, lastBlock, chained, signedFrom}
-use Rattle.amend.specs.declared.Open.{Open}
-use Rattle.amend.specs.Opening.{held, chainsOf, openedOf, refusedOpening, acceptedOpening, openChecked, openData, openOf}
-use Rattle.secure.specs.Security.{covered, message}
+use Rattle.frame_security.proofs.SecurityLaws.{micBlock-long}
+use Rattle.frame.specs.Refusals.{refused}
+use Rattle.amend.specs.Amending.{openState, lastPlace, chained, signedFrom}
+use Rattle.amend.specs.declared.amending.Open.{Open}
+use Rattle.amend.specs.OpenFrame.{held, chainsOf, openedOf, refusedOpening, acceptedOpening, openChecked, openData, openOf}
+use Rattle.frame_security.specs.Security.{covered, micBlock, message, dataMic}
 use Rattle.amend.proofs.Stores.{part-after, part-stored}
 use Rattle.amend.proofs.Chains.{Right, table-right, carried-table, block-behind, signed-right}
 
@@ -51,32 +51,20 @@ part-zeros i n k h =
     ∙ getD-replicate {A = ℕ} k (i + j) 0 0 (omega arith)
     ∙ sym (getD-replicate {A = ℕ} n j 0 0 l))
 
--- B_0 of what is covered, from the frame's first five bytes
-pub first-block : (f : List ℕ) (counter : ℕ) → 12 ≤ length f → length f ≤ 255
-    → helperBlock 0x49 (startOf f) counter (length f - 4) ++ covered f ≡ message (covered f) counter
-unfolding message
-first-block f counter lo hi =
-    let n = length f - 4 in
-    let long : length (covered f) ≡ n = length-take-le n f (omega arith) in
-    let count : n ≡ length (covered f) % 256 = omega arith in
-    ap (λ (b : List ℕ). b ++ covered f)
-    (helperBlock-start 0x49 f counter n
-    ∙ sym (helperBlock-same (covered f) f (take-take 5 n f (omega arith)) 0x49 counter n)
-    ∙ ap (helperBlock 0x49 (covered f) counter) count)
-
 module _ (ks f : List ℕ) (counter : ℕ) (lo : 12 ≤ length f) (hi : length f ≤ 255) where
   -- the chain values that opening computes
-  pub opened-table : (b : List ℕ) → b ≡ helperBlock 0x49 (startOf f) counter (length f - 4)
-      → chained ks f (lastBlock (length f - 4) - 0) 0 (sets (replicate {A = ℕ} 256 0) 0 (cipher ks (xorL zeros b)))
-      ≡ chainsOf ks (message (covered f) counter) (lastBlock (length f - 4))
+  pub opened-table : (b : List ℕ) → b ≡ micBlock (covered f) counter
+      → chained ks f (lastPlace (length f - 4) - 0) 0 (sets (replicate {A = ℕ} 256 0) 0 (cipher ks (xorL constZero b)))
+      ≡ chainsOf ks (message (covered f) counter) (lastPlace (length f - 4))
+  unfolding message
   opened-table b eb =
       let n = length f - 4 in
-      let last = lastBlock n in
+      let last = lastPlace n in
       let m = b ++ covered f in
-      let x = cipher ks (xorL zeros b) in
+      let x = cipher ks (xorL constZero b) in
       let none = replicate {A = ℕ} 256 0 in
-      let b-long : length b ≡ 16 = ap length eb ∙ helperBlock-long 0x49 (startOf f) counter n in
-      let x-long : length x ≡ 16 = cipher-long ks (xorL zeros b) in
+      let b-long : length b ≡ 16 = ap length eb ∙ micBlock-long (covered f) counter in
+      let x-long : length x ≡ 16 = cipher-long ks (xorL constZero b) in
       let none-long : length none ≡ 256 = length-replicate {A = ℕ} 256 0 in
       let first : chain ks m 1 ≡ x =
       chain-suc ks m 0
@@ -89,19 +77,19 @@ module _ (ks f : List ℕ) (counter : ℕ) (lo : 12 ≤ length f) (hi : length f
       (λ j l g. part-after (16 * j) 16 none 0 x (omega arith) ∙ part-zeros (16 * j) 16 256 (omega arith))
       (λ j l g. block-behind b f n j b-long (omega arith))
       ∙ ap (λ (q : List ℕ). chainsOf ks q last)
-      (ap (λ (q : List ℕ). q ++ covered f) eb ∙ first-block f counter lo hi)
+      (ap (λ (q : List ℕ). q ++ covered f) eb)
 
 -- the MIC of the first n bytes, from the chain values of the message that they make
 pub signed-mic : (nwk g : List ℕ) (counter n : ℕ) → 0 < n → n ≤ 251 → n ≤ length g
-    → signedFrom (keyExpansion nwk) g n (chainsOf (keyExpansion nwk) (message (take n g) counter) (lastBlock n))
+    → signedFrom (keyExpansion nwk) g n (chainsOf (keyExpansion nwk) (message (take n g) counter) (lastPlace n))
     ≡ dataMic nwk (take n g) counter
 unfolding dataMic mic mac message
 signed-mic nwk g counter n lo hi inside =
     let ks = keyExpansion nwk in
-    let b = helperBlock 0x49 (take n g) counter (length (take n g) % 256) in
+    let b = micBlock (take n g) counter in
     let m = b ++ take n g in
-    signed-right ks b g n (chainsOf ks m (lastBlock n)) (helperBlock-long 0x49 (take n g) counter (length (take n g) % 256)) lo
-    inside (table-right ks m (lastBlock n) (lastBlock n) (omega arith) (omega arith))
+    signed-right ks b g n (chainsOf ks m (lastPlace n)) (micBlock-long (take n g) counter) lo
+    inside (table-right ks m (lastPlace n) (lastPlace n) (omega arith) (omega arith))
 
 -- the same from an opened state
 state-mic : (f nwk app : List ℕ) (counter : ℕ) (s : Open) → 12 ≤ length f → length f ≤ 255
@@ -115,10 +103,10 @@ state-mic f nwk app counter s lo hi e =
 -- the answer by the state, the two MICs and the test that the code computes
 pub checked-is : (f nwk app : List ℕ) (counter : ℕ) (s : Open) {m g : List ℕ} {t : Bool} → 12 ≤ length f → length f ≤ 255
     → s ≡ openedOf f nwk app counter → m ≡ signedFrom (s .«nwk_schedule») f (length f - 4) (s .chains) → g ≡ micOf f
-    → t ≡ sameBytes m g → pick t (acceptedOpening s) (refusedOpening 5 0) ≡ openChecked f nwk app counter
+    → t ≡ sameBytes m g → pick t (acceptedOpening s) (refusedOpening (refused 5)) ≡ openChecked f nwk app counter
 unfolding openChecked
 checked-is f nwk app counter s lo hi made hm hg ht =
-    ap₂ (λ (b : Bool) (o : Open). pick b (acceptedOpening o) (refusedOpening 5 0))
+    ap₂ (λ (b : Bool) (o : Open). pick b (acceptedOpening o) (refusedOpening (refused 5)))
     (ht ∙ ap₂ sameBytes (hm ∙ state-mic f nwk app counter s lo hi made) hg)
     made
 
@@ -139,27 +127,14 @@ stored-frame f h =
 
 -- the state by what the code computes
 pub opened-is : (f nwk app : List ℕ) (counter : ℕ) {g ks ks′ chains : List ℕ} → g ≡ held f → ks ≡ keyExpansion nwk
-    → ks′ ≡ keyExpansion app → chains ≡ chainsOf ks (message (covered f) counter) (lastBlock (length f - 4))
-    → state g (length f) ks ks′ counter chains ≡ openedOf f nwk app counter
+    → ks′ ≡ keyExpansion app → chains ≡ chainsOf ks (message (covered f) counter) (lastPlace (length f - 4))
+    → openState g (length f) ks ks′ counter chains ≡ openedOf f nwk app counter
 unfolding openedOf
 opened-is f nwk app counter {g} {ks} {ks′} {chains} hg hk hk′ hc =
     let m = message (covered f) counter in
-    let last = lastBlock (length f - 4) in
-    ap₂ (λ (x y : List ℕ). state x (length f) ks ks′ counter y) hg hc
-    ∙ ap₂ (λ (x y : List ℕ). state (held f) (length f) x y counter (chainsOf x m last)) hk hk′
-
--- the last four bytes one by one
-pub mic-bytes : (f : List ℕ) → 4 ≤ length f
-    → at f (length f - 4) ∷ at f (length f - 4 + 1) ∷ at f (length f - 4 + 2) ∷ at f (length f - 4 + 3) ∷ [] ≡ micOf f
-mic-bytes f h =
-    let n = length f - 4 in
-    let zero-on : n + 0 ≡ n = omega arith in
-    sym
-    (tab-at (micOf f) 4 (omega (arith, length-drop n f))
-    ∙ ap₂ (λ (a b : ℕ). a ∷ b ∷ at (micOf f) 2 ∷ at (micOf f) 3 ∷ [])
-    (getD-drop n f 0 0 ∙ ap (at f) zero-on)
-    (getD-drop n f 1 0)
-    ∙ ap₂ (λ (a b : ℕ). at f n ∷ at f (n + 1) ∷ a ∷ b ∷ []) (getD-drop n f 2 0) (getD-drop n f 3 0))
+    let last = lastPlace (length f - 4) in
+    ap₂ (λ (x y : List ℕ). openState x (length f) ks ks′ counter y) hg hc
+    ∙ ap₂ (λ (x y : List ℕ). openState (held f) (length f) x y counter (chainsOf x m last)) hk hk′
 
 -- ---- the answers
 
@@ -172,13 +147,13 @@ module _ (f nwk app : List ℕ) (counter : ℕ) where
   unfolding openData
   counter-right e = simp (eq-eqb (counter % 65536) (fcnt f) e)
 
-  pub counter-wrong : (counter % 65536 ≡ fcnt f → ⊥) → openData f nwk app counter ≡ refusedOpening 14 0
+  pub counter-wrong : (counter % 65536 ≡ fcnt f → ⊥) → openData f nwk app counter ≡ refusedOpening (refused 14)
   unfolding openData
   counter-wrong n = simp (ne-eqb (counter % 65536) (fcnt f) n)
 
   -- a reading of another type
   pub open-other : OneOf (0 ∷ 1 ∷ 3 ∷ []) (tagOf R.the-type (readOf f))
-      → openOf f nwk app counter ≡ refusedOpening (otherNumber (readOf f)) (placeOf (readOf f))
+      → openOf f nwk app counter ≡ refusedOpening (otherRefusal (readOf f))
   unfolding openOf
   open-other h = not-data refusedOpening (λ d. openData f nwk app counter) (readOf f) h
 

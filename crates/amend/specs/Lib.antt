@@ -1,2 +1,3 @@
 pub mod Amending
-pub mod Opening
+pub mod AmendmentLists
+pub mod OpenFrame

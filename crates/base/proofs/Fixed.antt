@@ -1,5 +1,5 @@
 -- That a promise fixes the outcome of its call: two outcomes that satisfy it at the same arguments are equal. Said once,
--- of a contract as it is generated; the crate `promises` has an instance for each public call.
+-- of a contract as it is generated; the crate `theorems` has an instance for each public call.
 -- Assumes nothing.
 use mathlib.Core.Path.{_≡_}
 use mathlib.Core.List.{List}

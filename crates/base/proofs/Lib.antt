@@ -6,8 +6,8 @@ pub mod Fixed
 pub mod Lent
 pub mod Mask
 pub mod Parts
-pub mod Pieces
 pub mod Put
+pub mod StoringLaws
 pub mod Tab
 pub mod Tested
 pub mod Xor

@@ -3,16 +3,13 @@
 use mathlib.Core.Path.{_≡_, refl, sym, ap, ap₂, _∙_}
 use mathlib.Core.List.{List, [], _∷_, _++_}
 use Prim.Native.Nat.{ℕ, suc, _+_, _≤_, _<_}
+use native.Mathlib.Nat.{add-zero}
 use native.Mathlib.Numerals.{add-one}
 use native.Mathlib.Omega.{arith}
 use lib.ListN.{length, take, drop, set, length-append, length-set}
 use lib.Seq.{sets, sets-eq, length-sets, take-suc, length-take-le, take-all}
 use Rattle.base.specs.Bytes.{at}
-
--- t is stored into l from place i on, which gives e; r is the place past it
-pub record Put (l : List ℕ) (i : ℕ) (t : List ℕ) (r : ℕ) (e : List ℕ) : Type 0 where
-  pub next : r ≡ i + length t
-  pub list : e ≡ sets l i t
+use Rattle.base.specs.Storing.{Put}
 
 -- one run after another
 pub sets-append : (l : List ℕ) (i : ℕ) (s t : List ℕ) → sets l i (s ++ t) ≡ sets (sets l i s) (i + length s) t
@@ -78,3 +75,17 @@ step {l} {s} {e} {i} {n} h k =
 pub done : {l s e : List ℕ} {i n : ℕ} → Putting l i s e n → length s ≤ n → Put l i s (i + n) e
 done {l} {s} {e} {i} {n} h k =
     record { next = omega (arith, h .upto); list = h .so-far ∙ ap (λ (m : List ℕ). sets l i m) (take-all n s k) }
+
+-- ---- what a writer of short pieces wants: nothing yet, two bytes, a run said otherwise
+
+-- nothing is written
+pub none : (l : List ℕ) (at : ℕ) → Put l at [] at l
+none l at = record { next = sym (add-zero at); list = refl }
+
+-- two bytes
+pub two : (l : List ℕ) (at v w : ℕ) → Put l at (v ∷ w ∷ []) (at + 2) (set (set l at v) (at + 1) w)
+two l at v w = record { next = refl; list = ap (λ (i : ℕ). set (set l at v) i w) (add-one at) }
+
+-- the same run, with the reason first
+pub same : {l : List ℕ} {at : ℕ} {s t : List ℕ} {r : ℕ} {e : List ℕ} → s ≡ t → Put l at s r e → Put l at t r e
+same h p = renamed p h

@@ -4,7 +4,7 @@
 use mathlib.Core.Bool.{Bool, true, false}
 use mathlib.Core.List.{List, [], _∷_}
 use Prim.Native.Nat.{ℕ, zero, suc, _<_}
-use lib.ListN.{getD, take, drop}
+use lib.ListN.{getD, take, drop, replicate}
 use lib.Bits.{bitXor}
 
 -- the first where the test holds, the second where it does not
@@ -24,6 +24,10 @@ at s i = getD s i 0
 -- the n bytes from index i on
 abbrev pub part : ℕ → ℕ → List ℕ → List ℕ
 part i n s = take n (drop i s)
+
+-- n zeros
+abbrev pub zeros : ℕ → List ℕ
+zeros n = replicate n 0
 
 infixl 60 _⊕_
 -- exclusive or of two numbers, bit by bit

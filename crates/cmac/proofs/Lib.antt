@@ -1,3 +1,5 @@
-pub mod Laws
+pub mod CmacLaws
+pub mod DoublingLaws
+pub mod LastBlockLaws
 pub mod Subkeys
 pub mod Turns

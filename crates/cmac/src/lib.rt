@@ -4,10 +4,12 @@ ghost use mathlib.Core.Path.{_≡_};
 ghost use Prim.Native.Nat.{_+_, _≤_};
 ghost use lib.ListN.{length};
 ghost use Rattle.base.specs.Bytes.{part, xorL};
-ghost use Rattle.schedule.specs.Expansion.{keyExpansion};
+ghost use Rattle.aes.specs.KeyExpansion.{keyExpansion};
 ghost use Rattle.aes.specs.Fips197.{cipher};
 ghost use Rattle.cmac.specs.Rfc4493.{mac};
 ghost use Rattle.cmac.specs.Running.{started, resumed, absorbed, finished};
+
+mod blocks;
 
 // A tag under way. `chain` already holds the bytes of the open block, `filled` says how many those are. A full block
 // is enciphered only when a further byte comes, since the last block of a message is treated apart.
@@ -44,7 +46,7 @@ impl Cmac {
     pub fn new(key: [u8; 16]) -> Self
         ensures { λ r. ⌜ r ≡ started (keyExpansion key) ⌝ }
     {
-        let schedule = schedule::expand(key);
+        let schedule = aes::key_expansion::expand(key);
         Cmac::with_schedule(schedule)
     }
 

@@ -6,8 +6,10 @@ use mathlib.Core.List.{List, _++_}
 use Prim.Native.Nat.{ℕ, _+_, _-_, _%_, _≤_, _<_}
 use native.Mathlib.Omega.{arith}
 use lib.ListN.{length, drop, length-take, length-drop, take-append-drop}
-use lib.Seq.{drop-drop}
+use lib.Seq.{drop-drop, take-all}
 use Rattle.base.specs.Bytes.{at}
+use Rattle.base.specs.Storing.{runAt}
+use Rattle.base.proofs.StoringLaws.{run-inside}
 use Rattle.frame.specs.Layout.{fhdrLength, fport, payloadStart, payloadEnd, headerEnd, header, payload, micOf}
 use Rattle.frame.specs.Reading.{portOf, payloadOf, dataOf, readJoinRequest, readJoinAccept, readData, readType, readOf}
 use Rattle.frame.specs.Conditions.{IsData}
@@ -53,6 +55,12 @@ parts f =
     (sym (drop-drop (payloadEnd f - headerEnd f) (headerEnd f) f ∙ ap (λ (n : ℕ). drop n f) e))
     ∙ ap (λ (l : List ℕ). header f ++ l) (take-append-drop (payloadEnd f - headerEnd f) (drop (headerEnd f) f))
     ∙ take-append-drop (headerEnd f) f
+
+-- the MIC is the run of four bytes at the end
+pub mic-run : (f : List ℕ) → 4 ≤ length f → runAt 4 f (length f - 4) ≡ micOf f
+mic-run f h =
+    run-inside 4 f (length f - 4) (omega arith)
+    ∙ take-all 4 (drop (length f - 4) f) (omega (arith, length-drop (length f - 4) f))
 
 -- ---- what reading looks at
 

@@ -1,3 +1,4 @@
 pub mod LayoutLaws
+pub mod Others
 pub mod ReadingLaws
 pub mod ReadingSteps

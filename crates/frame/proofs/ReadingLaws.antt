@@ -11,6 +11,7 @@ use Rattle.base.proofs.Cases.{by-order, by-equal}
 use Rattle.frame.specs.Layout.{mtype, major, fhdrLength}
 use Rattle.frame.specs.Reading.{refuse, dataOf, readOf}
 use Rattle.frame.specs.Conditions.{IsJoinRequest, IsJoinAccept, IsData, WrongLength, request, accept, header, Gives12, Gives1, Gives2, Gives3, Gives4, Gives, of12, of1, of2, of3, of4}
+use Rattle.frame.specs.declared.refusals.Refusal.{Refusal}
 use Rattle.frame.specs.declared.parser.DataFrame.{DataFrame}
 use Rattle.frame.specs.declared.parser.Reading.{Reading}
 use Rattle.frame.specs.declared.parser.Reading.the-variants.{JoinRequest, JoinAccept, Data, Refused}
@@ -70,7 +71,7 @@ abbrev pub Says : List ℕ → Reading → Type 0
 Says f JoinRequest = IsJoinRequest f
 Says f (JoinAccept n) = IsJoinAccept f n
 Says f (Data d) = IsData f × (d ≡ dataOf f)
-Says f (Refused n p) = Gives f n × (p ≡ 0)
+Says f (Refused r) = Gives f (r .number) × (r .place ≡ 0)
 
 -- an answer that is given where what it says holds
 given : (f : List ℕ) (r : Reading) → readOf f ≡ r → Says f r → Says f (readOf f)
@@ -153,9 +154,9 @@ data-read f e = said f e .0
 pub data-fields : (f : List ℕ) {d : DataFrame} → readOf f ≡ Data d → d ≡ dataOf f
 data-fields f e = said f e .1
 
-pub refusal-read : (f : List ℕ) {n p : ℕ} → readOf f ≡ Refused n p → Gives f n
+pub refusal-read : (f : List ℕ) {r : Refusal} → readOf f ≡ Refused r → Gives f (r .number)
 refusal-read f e = said f e .0
 
 -- the place of a refusal is 0
-pub refusal-place : (f : List ℕ) {n p : ℕ} → readOf f ≡ Refused n p → p ≡ 0
+pub refusal-place : (f : List ℕ) {r : Refusal} → readOf f ≡ Refused r → r .place ≡ 0
 refusal-place f e = said f e .1

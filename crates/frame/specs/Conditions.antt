@@ -1,4 +1,4 @@
--- Document 01, "Reading" and "Numbers a caller may see", as conditions on a frame: what each kind of frame is, and when
+-- docs/RULES.md, Reading and Refusals, as conditions on a frame: what each kind of frame is, and when
 -- each refusal of reading is given, which is where its own condition holds and that of no earlier one does.
 -- Assumes nothing.
 use mathlib.Core.Path.{_≡_}

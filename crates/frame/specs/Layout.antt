@@ -1,4 +1,4 @@
--- The layout of a frame, from LoRaWAN 1.0 section 4 and document 01 "Reading": which bytes of it are what. Each is a
+-- The layout of a frame, from LoRaWAN 1.0 sections 4 and 6.2 (docs/RULES.md, Reading): which bytes of it are what. Each is a
 -- plain function of the bytes; whether the frame is one that has the field is said by `Reading`.
 -- Assumes nothing.
 use mathlib.Core.Bool.{Bool}
@@ -40,7 +40,7 @@ fcnt f = at f 6 + at f 7 * 256
 abbrev pub fitsHeader : List ℕ → Bool
 fitsHeader f = leb (5 + fhdrLength f) (length f)
 
--- 4.3.2 the port is reported where at least one payload byte follows it (document 01, after the crate)
+-- 4.3.2 the port is reported where at least one payload byte follows it (docs/RULES.md, Reading, after the crate)
 abbrev pub hasPort : List ℕ → Bool
 hasPort f = ltb (fhdrLength f + 6) (length f)
 
@@ -67,3 +67,52 @@ payload f = part (headerEnd f) (payloadEnd f - headerEnd f) f
 -- 4.4 MIC: the last four bytes
 abbrev pub micOf : List ℕ → List ℕ
 micOf f = drop (length f - 4) f
+
+-- ---- 6.2.4 join-request: where each field begins, and the field in frame order
+
+abbrev pub appEuiAt : ℕ
+appEuiAt = 1
+
+abbrev pub devEuiAt : ℕ
+devEuiAt = 9
+
+abbrev pub devNonceAt : ℕ
+devNonceAt = 17
+
+abbrev pub requestMicAt : ℕ
+requestMicAt = 19
+
+abbrev pub appEui : List ℕ → List ℕ
+appEui f = part appEuiAt 8 f
+
+abbrev pub devEui : List ℕ → List ℕ
+devEui f = part devEuiAt 8 f
+
+abbrev pub devNonce : List ℕ → List ℕ
+devNonce f = part devNonceAt 2 f
+
+-- ---- 6.2.5 clear join-accept
+
+abbrev pub appNonce : List ℕ → List ℕ
+appNonce f = part 1 3 f
+
+abbrev pub netId : List ℕ → List ℕ
+netId f = part 4 3 f
+
+-- DevAddr of a join-accept
+abbrev pub acceptAddr : List ℕ → List ℕ
+acceptAddr f = part 7 4 f
+
+abbrev pub dlSettings : List ℕ → ℕ
+dlSettings f = at f 11
+
+-- RxDelay, of which the low nibble counts
+abbrev pub rxDelay : List ℕ → ℕ
+rxDelay f = at f 12 % 16
+
+-- CFList: where it begins, and the byte that says what it holds
+abbrev pub cfListAt : ℕ
+cfListAt = 13
+
+abbrev pub cfListType : List ℕ → ℕ
+cfListType f = at f 28

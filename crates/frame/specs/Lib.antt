@@ -1,3 +1,7 @@
 pub mod Conditions
+pub mod Fctrl
+pub mod JoinFields
 pub mod Layout
 pub mod Reading
+pub mod ReadingNumbers
+pub mod Refusals

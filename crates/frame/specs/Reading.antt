@@ -1,4 +1,4 @@
--- What reading gives, from document 01 "Reading" and "Numbers a caller may see": the refusals in the order 12, 1, 2, 3, 4,
+-- What reading gives, from docs/RULES.md, Reading and Refusals: the refusals in the order 12, 1, 2, 3, 4,
 -- and the fields of what is accepted.
 -- Assumes nothing.
 use mathlib.Core.List.{List}
@@ -6,6 +6,7 @@ use Prim.Native.Nat.{ℕ, _+_, _-_}
 use lib.Dec.{ltb, eqb}
 use lib.ListN.{length}
 use Rattle.base.specs.Bytes.{pick}
+use Rattle.frame.specs.Refusals.{refused}
 use Rattle.frame.specs.Layout.{mtype, major, fctrl, fcnt, fhdrLength, fitsHeader, hasPort, fport, payloadStart, payloadEnd}
 use Rattle.frame.specs.declared.parser.FPort.{FPort}
 use Rattle.frame.specs.declared.parser.FPort.the-variants.{Absent, Port}
@@ -17,7 +18,7 @@ use Rattle.frame.specs.declared.parser.Reading.the-variants.{JoinRequest
 
 -- a refusal by its number; its place is 0
 abbrev pub refuse : ℕ → Reading
-refuse n = Refused n 0
+refuse n = Refused (refused n)
 
 unfoldable pub portOf : List ℕ → FPort
 portOf f = pick (hasPort f) (Port (fport f)) Absent

@@ -3,6 +3,9 @@ ghost use mathlib.Core.Path.{_≡_};
 ghost use Prim.Native.Nat.{_+_, _*_, _%_, _≤_};
 ghost use lib.ListN.{length};
 ghost use Rattle.frame.specs.Reading.{portOf, payloadOf, readJoinRequest, readJoinAccept, readData, readType, readOf};
+use crate::fctrl::message_type;
+use crate::packet_length::FCNT_AT;
+use crate::packet_length::FCTRL_AT;
 use crate::packet_length::FHDR_MIN_LEN;
 use crate::packet_length::JOIN_ACCEPT_LEN;
 use crate::packet_length::JOIN_ACCEPT_WITH_CFLIST_LEN;
@@ -10,18 +13,13 @@ use crate::packet_length::JOIN_REQUEST_LEN;
 use crate::packet_length::MIC_LEN;
 use crate::packet_length::PHY_PAYLOAD_MAX_LEN;
 use crate::packet_length::PHY_PAYLOAD_MIN_LEN;
-use control::message_type;
-
-// The numbers of the refusals that reading gives.
-pub const INVALID_PAYLOAD: u8 = 1;
-
-pub const UNSUPPORTED_MAJOR_VERSION: u8 = 2;
-
-pub const INVALID_MESSAGE_TYPE: u8 = 3;
-
-pub const INVALID_DATA: u8 = 4;
-
-pub const FRAME_TOO_LONG: u8 = 12;
+use crate::refusals::FRAME_TOO_LONG;
+use crate::refusals::INVALID_DATA;
+use crate::refusals::INVALID_MESSAGE_TYPE;
+use crate::refusals::INVALID_PAYLOAD;
+use crate::refusals::Refusal;
+use crate::refusals::UNSUPPORTED_MAJOR_VERSION;
+use base::storing::wide;
 
 // The port that a data frame reports (4.3.2).
 pub enum FPort {
@@ -48,23 +46,16 @@ pub struct DataFrame {
     pub mic: usize,
 }
 
-// What reading gives: the kind of the frame with its values, or a refusal by its number and place.
+// What reading gives: the kind of the frame with its values, or a refusal.
 pub enum Reading {
     JoinRequest,
     JoinAccept(usize),
     Data(DataFrame),
-    Refused(u8, usize),
-}
-
-// Bytes of a frame.
-fn wide(b: u8) -> usize
-    ensures { λ r. ⌜ r ≡ b ⌝ }
-{
-    b as usize
+    Refused(Refusal),
 }
 
 // The length of FHDR by its FCtrl byte (4.3.1): seven bytes and FOpts.
-fn fhdr_length(fctrl: u8) -> usize
+pub fn fhdr_length(fctrl: u8) -> usize
     ensures { λ r. ⌜ r ≡ 7 + fctrl % 16 ⌝ }
 {
     FHDR_MIN_LEN + wide(fctrl % 16)
@@ -82,7 +73,7 @@ fn read_port(frame: &[u8]) -> FPort
     requires { ⌜ 12 ≤ length (now frame) ⌝ }
     ensures { λ r. ⌜ r ≡ portOf (now (frame .entry)) ⌝ }
 {
-    let h = fhdr_length(frame[5]);
+    let h = fhdr_length(frame[FCTRL_AT]);
     if h + 6 < frame.len() {
         return FPort::Port(frame[1 + h]);
     }
@@ -94,7 +85,7 @@ fn read_payload(frame: &[u8]) -> FrmPayload
     requires { ⌜ 12 ≤ length (now frame) ⌝ }
     ensures { λ r. ⌜ r ≡ payloadOf (now (frame .entry)) ⌝ }
 {
-    let h = fhdr_length(frame[5]);
+    let h = fhdr_length(frame[FCTRL_AT]);
     let n = frame.len();
     if n < h + 6 {
         return FrmPayload::Nothing;
@@ -117,7 +108,10 @@ fn read_join_request(frame: &[u8]) -> Reading
     if frame.len() == JOIN_REQUEST_LEN {
         return Reading::JoinRequest;
     }
-    Reading::Refused(INVALID_DATA, 0)
+    Reading::Refused(Refusal {
+        number: INVALID_DATA,
+        place: 0,
+    })
 }
 
 fn read_join_accept(frame: &[u8]) -> Reading
@@ -129,23 +123,29 @@ fn read_join_accept(frame: &[u8]) -> Reading
     if frame.len() == JOIN_ACCEPT_WITH_CFLIST_LEN {
         return Reading::JoinAccept(JOIN_ACCEPT_WITH_CFLIST_LEN);
     }
-    Reading::Refused(INVALID_DATA, 0)
+    Reading::Refused(Refusal {
+        number: INVALID_DATA,
+        place: 0,
+    })
 }
 
 fn read_data(frame: &[u8]) -> Reading
     requires { ⌜ 12 ≤ length (now frame) ⌝ }
     ensures { λ r. ⌜ r ≡ readData (now (frame .entry)) ⌝ }
 {
-    let h = fhdr_length(frame[5]);
+    let h = fhdr_length(frame[FCTRL_AT]);
     if frame.len() < 5 + h {
-        return Reading::Refused(INVALID_DATA, 0);
+        return Reading::Refused(Refusal {
+            number: INVALID_DATA,
+            place: 0,
+        });
     }
     let port = read_port(frame);
     let payload = read_payload(frame);
-    let fcnt = read_fcnt(frame[6], frame[7]);
+    let fcnt = read_fcnt(frame[FCNT_AT], frame[FCNT_AT + 1]);
     let data = DataFrame {
         mtype: message_type(frame[0]),
-        fctrl: frame[5],
+        fctrl: frame[FCTRL_AT],
         fcnt: fcnt,
         fopts_end: 1 + h,
         port: port,
@@ -169,7 +169,10 @@ fn read_type(frame: &[u8]) -> Reading
     if mtype < 6 {
         return read_data(frame);
     }
-    Reading::Refused(INVALID_MESSAGE_TYPE, 0)
+    Reading::Refused(Refusal {
+        number: INVALID_MESSAGE_TYPE,
+        place: 0,
+    })
 }
 
 // Reading a frame: the first refusal that applies, of 12, 1, 2, 3 and 4, or what the frame holds. Bits 2 to 4 of byte
@@ -178,13 +181,22 @@ pub fn read(frame: &[u8]) -> Reading
     ensures { λ r. ⌜ r ≡ readOf (now (frame .entry)) ⌝ }
 {
     if PHY_PAYLOAD_MAX_LEN < frame.len() {
-        return Reading::Refused(FRAME_TOO_LONG, 0);
+        return Reading::Refused(Refusal {
+            number: FRAME_TOO_LONG,
+            place: 0,
+        });
     }
     if frame.len() < PHY_PAYLOAD_MIN_LEN {
-        return Reading::Refused(INVALID_PAYLOAD, 0);
+        return Reading::Refused(Refusal {
+            number: INVALID_PAYLOAD,
+            place: 0,
+        });
     }
     if frame[0] % 4 == 0 {
         return read_type(frame);
     }
-    Reading::Refused(UNSUPPORTED_MAJOR_VERSION, 0)
+    Reading::Refused(Refusal {
+        number: UNSUPPORTED_MAJOR_VERSION,
+        place: 0,
+    })
 }

@@ -6,17 +6,16 @@ use mathlib.Core.List.{List}
 use Prim.Native.Nat.{ℕ, _<_, _≤_}
 use lib.ListN.{length}
 use borrow.Author.Tests.{lt-ltb, le-ltb}
-use Rattle.build.specs.Building.{dataRefusal}
-use Rattle.build.specs.Frames.{builtOf, outOf, Builds as BuildsFrame}
-use Rattle.build.specs.declared.creator.Built.{Built}
-use Rattle.build.specs.declared.creator.DataParts.{DataParts}
-use Rattle.layout.specs.Answers.{answerOf, builtAnswer}
-use Rattle.frame_c.specs.Answers.{Builds}
-use Rattle.frame_c.specs.Given.{dataRefused}
+use Rattle.frame_build.specs.DataBuilding.{dataRefusal}
+use Rattle.frame_build.specs.DataFrames.{builtOf, outOf, Builds as BuildsFrame}
+use Rattle.frame_build.specs.declared.creator.Built.{Built}
+use Rattle.frame_build.specs.declared.creator.data_frame.DataParts.{DataParts}
+use Rattle.frame_c.specs.CAnswers.{cAnswer, builtAnswer, BuildsInC}
+use Rattle.frame_c.specs.CGiven.{dataRefused}
 
 -- what was built of equal parts
 pub made : {n m : ℕ} {f g l e : List ℕ} {b : Built} {r : ℕ} → BuildsFrame n f l b e → n ≡ m → f ≡ g → r ≡ builtAnswer b
-    → Builds m g l r e
+    → BuildsInC m g l r e
 made {n} {m} {f} {g} {l} {e} {b} {r} p q s a =
     record {
       answer =
@@ -26,7 +25,7 @@ made {n} {m} {f} {g} {l} {e} {b} {r} p q s a =
     }
 
 -- a refusal by 3, which changes nothing
-pub refused-kind : {n : ℕ} {f l : List ℕ} {r : ℕ} → n ≡ 3 → r ≡ answerOf 3 0 → Builds n f l r l
+pub refused-kind : {n : ℕ} {f l : List ℕ} {r : ℕ} → n ≡ 3 → r ≡ cAnswer 3 0 → BuildsInC n f l r l
 refused-kind {n} {f} {l} {r} q a =
     record {
       answer = a ∙ ap (λ (k : ℕ). builtAnswer (builtOf k (length f))) (sym q);

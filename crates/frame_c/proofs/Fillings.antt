@@ -5,15 +5,14 @@ use mathlib.Core.List.{List}
 use Prim.Native.Nat.{ℕ}
 use lib.ListN.{length}
 use Rattle.base.specs.Bytes.{at}
-use Rattle.numbers.specs.Numbers.{numberOf, placeOf, valuesOf, plainValues, dataValues}
+use Rattle.frame.specs.ReadingNumbers.{numberOf, placeOf, valuesOf, plainValues, dataValues}
 use Rattle.frame.specs.Reading.{readOf}
 use Rattle.frame.specs.declared.parser.Reading.{Reading}
 use Rattle.frame.specs.declared.parser.Reading.the-variants.{JoinRequest, JoinAccept, Data, Refused}
-use Rattle.numbers.specs.declared.Values.{Values}
-use Rattle.join_accept.specs.declared.SessionKeys.{SessionKeys}
-use Rattle.layout.specs.Answers.{orShort, Fills}
-use Rattle.layout.specs.Fields.{fieldsOf, FieldsInto, KeysInto}
-use Rattle.frame_c.specs.Fields.{ReadInto}
+use Rattle.frame.specs.declared.numbers.Values.{Values}
+use Rattle.frame_opening.specs.declared.join_accept.SessionKeys.{SessionKeys}
+use Rattle.frame_c.specs.CAnswers.{orShort, Fills}
+use Rattle.frame_c.specs.CStored.{fieldsOf, FieldsInto, KeysInto, ReadInto}
 
 pub keys-into : {k s : SessionKeys} {l e : List ℕ} {r : ℕ} → k ≡ s → KeysInto k l r e → KeysInto s l r e
 keys-into {l = l} {e} {r} q h = subst (λ (s : SessionKeys). KeysInto s l r e) q h
@@ -25,7 +24,7 @@ unfolding plainValues dataValues
 of-reading JoinRequest f h = h
 of-reading (JoinAccept n) f h = h
 of-reading (Data d) f h = h
-of-reading (Refused n p) f h = h
+of-reading (Refused n) f h = h
 
 pub read-into : (f : List ℕ) {v : Values} {l e : List ℕ} {r : ℕ} → v ≡ valuesOf (readOf f) → FieldsInto v f l r e
     → ReadInto f l r e

@@ -1,3 +1,5 @@
 mod Buildings
 mod Fillings
 mod Opened
+pub mod StoredLaws
+pub mod TestedLaws

@@ -1,3 +1,3 @@
-pub mod Answers
-pub mod Fields
-pub mod Given
+pub mod CAnswers
+pub mod CGiven
+pub mod CStored

@@ -1,8 +1,8 @@
 // Amendments.
 ghost use mathlib.Core.Path.{_≡_};
-ghost use Rattle.amend_list.specs.Listed.{amendFrameOf, amendedFrame};
-ghost use Rattle.frame_c.specs.Answers.{outcomeAnswer};
-use layout::answers::answer;
+ghost use Rattle.amend.specs.AmendmentLists.{amendFrameOf, amendedFrame};
+ghost use Rattle.frame_c.specs.CAnswers.{refusalAnswer};
+use crate::conversions::answers::refusal_answer;
 
 #[no_mangle]
 pub extern "C" fn zinovoky_amend(
@@ -14,7 +14,7 @@ pub extern "C" fn zinovoky_amend(
 ) -> u64
     ensures { λ r.
         ⌜ r
-        ≡ outcomeAnswer
+        ≡ refusalAnswer
         (amendFrameOf (now (frame .entry)) (now («nwk_skey» .entry)) (now («app_skey» .entry)) counter
         (now (amendments .entry))) ⌝ }
     ensures { λ _.
@@ -24,6 +24,6 @@ pub extern "C" fn zinovoky_amend(
 {
     let nwk = *nwk_skey;
     let app = *app_skey;
-    let outcome = amend_list::amend_frame(frame, nwk, app, counter, amendments);
-    answer(outcome.number, outcome.place)
+    let outcome = amend::list::amend_frame(frame, nwk, app, counter, amendments);
+    refusal_answer(outcome)
 }

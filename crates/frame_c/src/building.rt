@@ -1,17 +1,17 @@
 // Buildings.
 ghost use lib.Dec.{eqb};
 ghost use lib.ListN.{length};
-ghost use Rattle.build_join.specs.Building.{joinRequestRefusal, joinAcceptRefusal};
-ghost use Rattle.build.specs.Frames.{dataFrame};
-ghost use Rattle.build_join.specs.Frames.{joinRequest, joinAccept};
-ghost use Rattle.layout.specs.Given.{acceptParts, dataParts};
-ghost use Rattle.frame_c.specs.Answers.{Builds};
-ghost use Rattle.frame_c.specs.Given.{requestParts, dataRefused};
-use build_join::creator::JoinRequestParts;
-use layout::answers::answer;
-use layout::building::accept_parts;
-use layout::building::built_answer;
-use layout::building::data_parts;
+ghost use Rattle.frame_build.specs.JoinBuilding.{joinRequestRefusal, joinAcceptRefusal};
+ghost use Rattle.frame_build.specs.DataFrames.{dataFrame};
+ghost use Rattle.frame_build.specs.JoinFrames.{joinRequest, joinAccept};
+ghost use Rattle.frame_c.specs.CGiven.{acceptParts, dataParts, requestParts, dataRefused};
+ghost use Rattle.frame_c.specs.CAnswers.{BuildsInC};
+use crate::conversions::answers::answer;
+use crate::conversions::building::accept_parts;
+use crate::conversions::building::built_answer;
+use crate::conversions::building::data_parts;
+use frame::refusals::INVALID_MESSAGE_TYPE;
+use frame_build::creator::join::JoinRequestParts;
 
 #[no_mangle]
 pub extern "C" fn zinovoky_build_join_request(
@@ -22,7 +22,7 @@ pub extern "C" fn zinovoky_build_join_request(
     out: &mut [u8],
 ) -> u64
     ensures { λ r.
-        ⌜ Builds (joinRequestRefusal (length (now (out .entry))))
+        ⌜ BuildsInC (joinRequestRefusal (length (now (out .entry))))
         (joinRequest (now («app_key» .entry))
         (requestParts (now («app_eui» .entry)) (now («dev_eui» .entry)) (now («dev_nonce» .entry))))
         (now (out .entry)) r (now (out .exit)) ⌝ }
@@ -36,7 +36,7 @@ pub extern "C" fn zinovoky_build_join_request(
         dev_eui: dev,
         dev_nonce: nonce,
     };
-    let built = build_join::creator::build_join_request(parts, key, out);
+    let built = frame_build::creator::join::build_join_request(parts, key, out);
     built_answer(built)
 }
 
@@ -49,7 +49,7 @@ pub extern "C" fn zinovoky_build_join_accept(
     out: &mut [u8],
 ) -> u64
     ensures { λ r.
-        ⌜ Builds
+        ⌜ BuildsInC
         (joinAcceptRefusal (acceptParts (now (fixed .entry)) (eqb «with_list» 1)) (now (channels .entry))
         (length (now (out .entry))))
         (joinAccept (now («app_key» .entry)) (acceptParts (now (fixed .entry)) (eqb «with_list» 1)) (now (channels .entry)))
@@ -58,7 +58,7 @@ pub extern "C" fn zinovoky_build_join_accept(
     let key = *app_key;
     let bytes = *fixed;
     let parts = accept_parts(bytes, with_list == 1);
-    let built = build_join::creator::build_join_accept(parts, channels, key, out);
+    let built = frame_build::creator::join::build_join_accept(parts, channels, key, out);
     built_answer(built)
 }
 
@@ -76,7 +76,7 @@ pub extern "C" fn zinovoky_build_data(
     out: &mut [u8],
 ) -> u64
     ensures { λ r.
-        ⌜ Builds
+        ⌜ BuildsInC
         (dataRefused kind (dataParts kind (now («dev_addr» .entry)) fctrl counter port) (now (commands .entry))
         (now (payload .entry)) (length (now (out .entry))))
         (dataFrame (now («nwk_skey» .entry)) (now («app_skey» .entry))
@@ -84,15 +84,22 @@ pub extern "C" fn zinovoky_build_data(
         (now (out .entry)) r (now (out .exit)) ⌝ }
 {
     if kind < 2 {
-        return answer(3, 0);
+        return answer(INVALID_MESSAGE_TYPE, 0);
     }
     if kind > 5 {
-        return answer(3, 0);
+        return answer(INVALID_MESSAGE_TYPE, 0);
     }
     let addr = *dev_addr;
     let nwk = *nwk_skey;
     let app = *app_skey;
     let parts = data_parts(kind, addr, fctrl, counter, port);
-    let built = build::creator::build_data(parts, commands, payload, nwk, app, out);
+    let built = frame_build::creator::data_frame::build_data(
+        parts,
+        commands,
+        payload,
+        nwk,
+        app,
+        out,
+    );
     built_answer(built)
 }

@@ -2,5 +2,6 @@
 // the function that does the work and turns its answer into one number.
 pub mod amending;
 pub mod building;
+mod conversions;
 pub mod opening;
 pub mod reading;

@@ -1,16 +1,16 @@
 // MIC tests, decryption and session keys.
 ghost use mathlib.Core.Path.{_≡_};
-ghost use Rattle.payload.specs.Opening.{joinRequestTest, joinAcceptTest, dataTest, dataOpened};
-ghost use Rattle.join_accept.specs.JoinAccept.{acceptOpened};
-ghost use Rattle.join_accept.specs.Session.{sessionKeys};
-ghost use Rattle.default_crypto.specs.Checked.{dataOpenedChecked, acceptOpenedChecked};
-ghost use Rattle.layout.specs.Answers.{testAnswer, passesOf, openingAnswer};
-ghost use Rattle.layout.specs.Fields.{KeysInto};
-ghost use Rattle.frame_c.specs.Given.{nwkGiven, appGiven};
+ghost use Rattle.frame_opening.specs.FrameOpening.{joinRequestTest, joinAcceptTest, dataTest, dataOpened};
+ghost use Rattle.frame_opening.specs.JoinAcceptOpening.{acceptOpened};
+ghost use Rattle.frame_opening.specs.SessionKeys.{sessionKeys};
+ghost use Rattle.frame_opening.specs.CheckedOpening.{dataOpenedChecked, acceptOpenedChecked};
+ghost use Rattle.frame_c.specs.CAnswers.{testAnswer, passesOf, openingAnswer};
+ghost use Rattle.frame_c.specs.CStored.{KeysInto};
+ghost use Rattle.frame_c.specs.CGiven.{nwkGiven, appGiven};
+use crate::conversions::answers::opening_answer;
+use crate::conversions::answers::test_answer;
+use crate::conversions::opening::store_keys;
 use frame::keys::MaybeKey;
-use layout::answers::opening_answer;
-use layout::answers::test_answer;
-use layout::opening::store_keys;
 
 #[no_mangle]
 pub extern "C" fn zinovoky_join_request_mic(
@@ -24,7 +24,7 @@ pub extern "C" fn zinovoky_join_request_mic(
         ≡ passesOf (joinRequestTest (now («app_key» .entry)) (now (frame .entry))) (now (passes .entry)) ⌝ }
 {
     let key = *app_key;
-    let test = payload::join_request_mic(frame, key);
+    let test = frame_opening::mic_tests::join_request_mic(frame, key);
     test_answer(test, passes)
 }
 
@@ -36,7 +36,7 @@ pub extern "C" fn zinovoky_join_accept_mic(frame: &[u8], app_key: &[u8; 16], pas
         ≡ passesOf (joinAcceptTest (now («app_key» .entry)) (now (frame .entry))) (now (passes .entry)) ⌝ }
 {
     let key = *app_key;
-    let test = payload::join_accept_mic(frame, key);
+    let test = frame_opening::mic_tests::join_accept_mic(frame, key);
     test_answer(test, passes)
 }
 
@@ -53,7 +53,7 @@ pub extern "C" fn zinovoky_data_mic(
         ≡ passesOf (dataTest (now («nwk_skey» .entry)) counter (now (frame .entry))) (now (passes .entry)) ⌝ }
 {
     let key = *nwk_skey;
-    let test = payload::data_mic(frame, key, counter);
+    let test = frame_opening::mic_tests::data_mic(frame, key, counter);
     test_answer(test, passes)
 }
 
@@ -85,7 +85,7 @@ pub extern "C" fn zinovoky_decrypt_data(
         given: keys_given / 2 % 2 == 1,
         key: app_key,
     };
-    let opening = payload::decrypt_data(frame, nwk, app, counter);
+    let opening = frame_opening::payload::decrypt_data(frame, nwk, app, counter);
     opening_answer(opening)
 }
 
@@ -113,7 +113,7 @@ pub extern "C" fn zinovoky_decrypt_data_checked(
         given: keys_given / 2 % 2 == 1,
         key: app_key,
     };
-    let opening = default_crypto::decrypt_data_checked(frame, nwk_key, app, counter);
+    let opening = frame_opening::default_crypto::decrypt_data_checked(frame, nwk_key, app, counter);
     opening_answer(opening)
 }
 
@@ -123,7 +123,7 @@ pub extern "C" fn zinovoky_decrypt_join_accept(frame: &mut [u8], app_key: &[u8; 
     ensures { λ _. ⌜ now (frame .exit) ≡ acceptOpened (now («app_key» .entry)) (now (frame .entry)) .bytes ⌝ }
 {
     let key = *app_key;
-    let opening = join_accept::decrypt_join_accept(frame, key);
+    let opening = frame_opening::join_accept::decrypt_join_accept(frame, key);
     opening_answer(opening)
 }
 
@@ -133,7 +133,7 @@ pub extern "C" fn zinovoky_decrypt_join_accept_checked(frame: &mut [u8], app_key
     ensures { λ _. ⌜ now (frame .exit) ≡ acceptOpenedChecked (now («app_key» .entry)) (now (frame .entry)) .bytes ⌝ }
 {
     let key = *app_key;
-    let opening = default_crypto::decrypt_join_accept_checked(frame, key);
+    let opening = frame_opening::default_crypto::decrypt_join_accept_checked(frame, key);
     opening_answer(opening)
 }
 
@@ -150,6 +150,6 @@ pub extern "C" fn zinovoky_session_keys(
 {
     let nonce = *dev_nonce;
     let key = *app_key;
-    let session = join_accept::session_keys(frame, nonce, key);
+    let session = frame_opening::join_accept::session_keys(frame, nonce, key);
     store_keys(session, keys)
 }

@@ -1,8 +1,8 @@
 // Reading.
-ghost use Rattle.frame_c.specs.Fields.{ReadInto};
+ghost use Rattle.frame_c.specs.CStored.{ReadInto};
+use crate::conversions::reading::store_fields;
+use frame::numbers::values_of;
 use frame::parser::read;
-use layout::reading::store_fields;
-use numbers::values_of;
 
 #[no_mangle]
 pub extern "C" fn zinovoky_read(frame: &[u8], fields: &mut [u8]) -> u64

@@ -4,24 +4,24 @@ use crate::input::ROOM;
 use crate::input::after;
 use crate::input::copy;
 use crate::input::eight_at;
-use crate::input::four_at;
-use crate::input::key_at;
 use crate::input::length_at;
 use crate::input::number_at;
-use crate::input::three_at;
 use crate::input::two_at;
 use crate::output::put;
 use crate::output::put_all;
 use crate::output::put_length;
-use build::creator::Built;
-use build::creator::DataParts;
-use build::creator::build_data;
-use build_join::creator::JoinAcceptParts;
-use build_join::creator::JoinRequestParts;
-use build_join::creator::build_join_accept;
-use build_join::creator::build_join_request;
+use base::storing::block_at;
+use base::storing::byte_at;
+use base::storing::four_at;
+use base::storing::three_at;
 use frame::parser::FPort;
-use pieces::byte_at;
+use frame_build::creator::Built;
+use frame_build::creator::data_frame::DataParts;
+use frame_build::creator::data_frame::build_data;
+use frame_build::creator::join::JoinAcceptParts;
+use frame_build::creator::join::JoinRequestParts;
+use frame_build::creator::join::build_join_accept;
+use frame_build::creator::join::build_join_request;
 
 // A byte's worth of channels.
 const CHANNELS: usize = 256;
@@ -32,9 +32,9 @@ fn put_built(built: Built) {
             put(0);
             put_length(n);
         }
-        Built::Refused(number, n) => {
-            put(number);
-            put_length(n);
+        Built::Refused(refusal) => {
+            put(refusal.number);
+            put_length(refusal.place);
         }
     }
 }
@@ -52,7 +52,7 @@ fn request_parts(record: &[u8]) -> JoinRequestParts {
 
 fn request_into(record: &[u8], out: &mut [u8]) {
     let parts = request_parts(record);
-    let key = key_at(record, 19);
+    let key = block_at(record, 19);
     put_built(build_join_request(parts, key, out));
     put_all(out);
 }
@@ -97,7 +97,7 @@ fn read_channels(record: &[u8], channels: &mut [u32]) {
 
 fn accept_into(record: &[u8], channels: &[u32], place: usize, out: &mut [u8]) {
     let parts = accept_parts(record);
-    let key = key_at(record, place);
+    let key = block_at(record, place);
     put_built(build_join_accept(parts, channels, key, out));
     put_all(out);
 }
@@ -141,8 +141,8 @@ fn data_parts(record: &[u8]) -> DataParts {
 
 fn data_into(record: &[u8], commands: &[u8], payload: &[u8], place: usize, out: &mut [u8]) {
     let parts = data_parts(record);
-    let nwk_skey = key_at(record, place);
-    let app_skey = key_at(record, after(place, 16));
+    let nwk_skey = block_at(record, place);
+    let app_skey = block_at(record, after(place, 16));
     put_built(build_data(parts, commands, payload, nwk_skey, app_skey, out));
     put_all(out);
 }

@@ -1,7 +1,9 @@
-// The arguments of a record, by their places. A record that is too short counts as one with zeros behind it.
+// The arguments of a record, by their places. What does not lie inside a record is taken as zeros.
 ghost use Prim.Native.Nat.{_≤_};
+use base::storing::block_at;
+use base::storing::byte_at;
+use base::storing::four_at;
 use frame::keys::MaybeKey;
-use pieces::byte_at;
 use std::num::wrapping_add_usize;
 
 // No record, frame or output of a case is longer.
@@ -43,26 +45,8 @@ pub fn two_at(record: &[u8], place: usize) -> [u8; 2] {
     r
 }
 
-pub fn three_at(record: &[u8], place: usize) -> [u8; 3] {
-    let mut r = [0u8; 3];
-    copy(&mut r, record, place);
-    r
-}
-
-pub fn four_at(record: &[u8], place: usize) -> [u8; 4] {
-    let mut r = [0u8; 4];
-    copy(&mut r, record, place);
-    r
-}
-
 pub fn eight_at(record: &[u8], place: usize) -> [u8; 8] {
     let mut r = [0u8; 8];
-    copy(&mut r, record, place);
-    r
-}
-
-pub fn key_at(record: &[u8], place: usize) -> [u8; 16] {
-    let mut r = [0u8; 16];
     copy(&mut r, record, place);
     r
 }
@@ -70,7 +54,7 @@ pub fn key_at(record: &[u8], place: usize) -> [u8; 16] {
 // A key that may not be given: 1 and the key, or 0.
 pub fn maybe_key_at(record: &[u8], place: usize) -> MaybeKey {
     let given = byte_at(record, place) == 1;
-    let key = key_at(record, after(place, 1));
+    let key = block_at(record, after(place, 1));
     MaybeKey {
         given: given,
         key: key,

@@ -1,12 +1,12 @@
-// Replays the recorded cases of standard input, a call of the port to each, and writes a line with the answer to each in
-// hex, and at the end how many there were. The records and the right answers are those of tools/oracle, whose README.md
-// has the formats; tools/oracle/record.py lays them beside this program. It promises nothing but to be safe and to end:
-// what comes out is compared.
+// Makes a call of the codec for each recorded case of standard input: a line of hex has its answer, the last line says how
+// many there were. tools/oracle/README.md has the formats; tools/oracle/record.py lays the cases and the right answers
+// beside this program, whose contracts say only that it is safe and ends.
 use crate::input::ROOM;
 use libc::STDERR_FILENO;
 use libc::STDIN_FILENO;
 use libc::STDOUT_FILENO;
 
+mod amending;
 mod building;
 mod input;
 mod opening;
@@ -15,7 +15,7 @@ mod reading;
 
 // The call that a record tells of.
 fn answer(record: &[u8]) {
-    match pieces::byte_at(record, 0) {
+    match base::storing::byte_at(record, 0) {
         9 => building::join_request(record),
         10 => building::join_accept(record),
         11 => building::data(record),

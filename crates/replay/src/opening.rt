@@ -1,17 +1,19 @@
-// Kinds 1 to 8: MIC tests, decryption, session keys. Each has its frame behind arguments of a fixed length.
+// Kinds 1 to 8 and 12: MIC tests, decryption, session keys, amendments. Each has its frame behind arguments of a fixed
+// length.
+use crate::amending::open_and_amend;
 use crate::input::ROOM;
 use crate::input::after;
 use crate::input::copy;
-use crate::input::key_at;
 use crate::input::length_at;
 use crate::input::maybe_key_at;
 use crate::input::number_at;
 use crate::input::two_at;
 use crate::output::put;
 use crate::output::put_all;
-use payload::MicTest;
-use payload::Opening;
-use pieces::byte_at;
+use base::storing::block_at;
+use base::storing::byte_at;
+use frame_opening::mic_tests::MicTest;
+use frame_opening::payload::Opening;
 
 // Where the frame's length stands, by the kind.
 fn frame_place(kind: u8) -> usize {
@@ -20,6 +22,7 @@ fn frame_place(kind: u8) -> usize {
         4 => 39,
         5 => 38,
         8 => 19,
+        12 => 37,
         _ => 17,
     }
 }
@@ -28,68 +31,74 @@ fn put_test(test: MicTest) {
     match test {
         MicTest::Passes => put_all(&[0, 1]),
         MicTest::Fails => put_all(&[0, 0]),
-        MicTest::Refused(n, _) => put_all(&[n, 0]),
+        MicTest::Refused(refusal) => put_all(&[refusal.number, 0]),
     }
 }
 
 fn put_opening(opening: Opening) {
     match opening {
         Opening::Opened => put(0),
-        Opening::Refused(n, _) => put(n),
+        Opening::Refused(refusal) => put(refusal.number),
     }
 }
 
 fn test_join_request(record: &[u8], frame: &[u8]) {
-    let key = key_at(record, 1);
-    put_test(payload::join_request_mic(frame, key));
+    let key = block_at(record, 1);
+    put_test(frame_opening::mic_tests::join_request_mic(frame, key));
 }
 
 fn test_join_accept(record: &[u8], frame: &[u8]) {
-    let key = key_at(record, 1);
-    put_test(payload::join_accept_mic(frame, key));
+    let key = block_at(record, 1);
+    put_test(frame_opening::mic_tests::join_accept_mic(frame, key));
 }
 
 fn test_data(record: &[u8], frame: &[u8]) {
-    let key = key_at(record, 1);
+    let key = block_at(record, 1);
     let counter = number_at(record, 17);
-    put_test(payload::data_mic(frame, key, counter));
+    put_test(frame_opening::mic_tests::data_mic(frame, key, counter));
 }
 
 fn decrypt_data(record: &[u8], frame: &mut [u8]) {
     let nwk_skey = maybe_key_at(record, 1);
     let app_skey = maybe_key_at(record, 18);
     let counter = number_at(record, 35);
-    put_opening(payload::decrypt_data(frame, nwk_skey, app_skey, counter));
+    put_opening(frame_opening::payload::decrypt_data(frame, nwk_skey, app_skey, counter));
     put_all(frame);
 }
 
 fn decrypt_data_checked(record: &[u8], frame: &mut [u8]) {
-    let nwk_skey = key_at(record, 1);
+    let nwk_skey = block_at(record, 1);
     let app_skey = maybe_key_at(record, 17);
     let counter = number_at(record, 34);
-    put_opening(default_crypto::decrypt_data_checked(frame, nwk_skey, app_skey, counter));
+    put_opening(frame_opening::default_crypto::decrypt_data_checked(
+        frame,
+        nwk_skey,
+        app_skey,
+        counter,
+    ));
     put_all(frame);
 }
 
 fn decrypt_accept(record: &[u8], frame: &mut [u8]) {
-    let key = key_at(record, 1);
-    put_opening(join_accept::decrypt_join_accept(frame, key));
+    let key = block_at(record, 1);
+    put_opening(frame_opening::join_accept::decrypt_join_accept(frame, key));
     put_all(frame);
 }
 
 fn decrypt_accept_checked(record: &[u8], frame: &mut [u8]) {
-    let key = key_at(record, 1);
-    put_opening(default_crypto::decrypt_join_accept_checked(frame, key));
+    let key = block_at(record, 1);
+    put_opening(frame_opening::default_crypto::decrypt_join_accept_checked(frame, key));
     put_all(frame);
 }
 
 fn session_keys(record: &[u8], frame: &[u8]) {
-    let key = key_at(record, 1);
+    let key = block_at(record, 1);
     let dev_nonce = two_at(record, 17);
-    let keys = join_accept::session_keys(frame, dev_nonce, key);
+    let keys = frame_opening::join_accept::session_keys(frame, dev_nonce, key);
     let nwk_skey = keys.nwk_skey;
     let app_skey = keys.app_skey;
-    put(keys.number);
+    let refusal = keys.refusal;
+    put(refusal.number);
     put_all(&nwk_skey);
     put_all(&app_skey);
 }
@@ -105,6 +114,7 @@ fn on_frame(record: &[u8], frame: &mut [u8], place: usize) {
         5 => decrypt_data_checked(record, frame),
         6 => decrypt_accept(record, frame),
         7 => decrypt_accept_checked(record, frame),
+        12 => open_and_amend(record, frame),
         _ => session_keys(record, frame),
     }
 }

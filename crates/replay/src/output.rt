@@ -1,4 +1,5 @@
 // What an answer is written as: two digits to a byte, the numbers low byte first.
+use base::storing::byte_at;
 use libc::STDOUT_FILENO;
 
 fn wide(b: u8) -> u64 {
@@ -9,12 +10,17 @@ pub fn put(b: u8) {
     io::print_hex(STDOUT_FILENO, wide(b), 2);
 }
 
-pub fn put_all(bytes: &[u8]) {
+// The first n bytes, and zeros where there are not so many.
+pub fn put_first(bytes: &[u8], n: usize) {
     let mut i: usize = 0;
-    while i < bytes.len() {
-        put(bytes[i]);
+    while i < n {
+        put(byte_at(bytes, i));
         i += 1;
     }
+}
+
+pub fn put_all(bytes: &[u8]) {
+    put_first(bytes, bytes.len());
 }
 
 // A yes is 1, a no is 0.

@@ -1,7 +1,6 @@
 // Kinds 13 and 14: what a frame holds, and what a clear join-accept says.
 use crate::input::ROOM;
 use crate::input::copy;
-use crate::input::four_at;
 use crate::input::length_at;
 use crate::output::put;
 use crate::output::put_all;
@@ -9,15 +8,16 @@ use crate::output::put_flag;
 use crate::output::put_length;
 use crate::output::put_number;
 use crate::output::put_place;
-use control::FCtrl;
-use control::is_uplink;
+use base::storing::four_at;
+use frame::fctrl::FCtrl;
+use frame::fctrl::is_uplink;
+use frame::join_fields::CfList;
+use frame::join_fields::JoinAcceptFields;
+use frame::join_fields::join_accept_fields;
+use frame::join_fields::join_request_fields;
+use frame::numbers::Values;
+use frame::numbers::values_of;
 use frame::parser::read;
-use joining::CfList;
-use joining::JoinAcceptFields;
-use joining::join_accept_fields;
-use joining::join_request_fields;
-use numbers::Values;
-use numbers::values_of;
 
 fn put_request(frame: &[u8]) {
     let fields = join_request_fields(frame);
@@ -138,8 +138,9 @@ fn mic_place(length: usize) -> usize {
 fn read_clear(record: &[u8], frame: &mut [u8]) {
     copy(frame, record, 3);
     let fields = join_accept_fields(frame);
-    put(fields.number);
-    if fields.number == 0 {
+    let refusal = fields.refusal;
+    put(refusal.number);
+    if refusal.number == 0 {
         let mic = four_at(frame, mic_place(frame.len()));
         put_accept(fields, mic);
     }

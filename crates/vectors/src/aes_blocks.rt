@@ -1,26 +1,9 @@
 // The published vectors of AES-128, and two long chains whose last blocks come from OpenSSL (docs/VECTORS.md).
-use crate::tally;
-use crate::tally::Tally;
-
-// FIPS 197, Appendices A.1 and B; SP 800-38A, F.1, has the same key.
-const KEY_B: [u8; 16] = [
-    0x2b,
-    0x7e,
-    0x15,
-    0x16,
-    0x28,
-    0xae,
-    0xd2,
-    0xa6,
-    0xab,
-    0xf7,
-    0x15,
-    0x88,
-    0x09,
-    0xcf,
-    0x4f,
-    0x3c,
-];
+use crate::report;
+use crate::report::Tally;
+use crate::sample::KEY;
+use crate::sample::MESSAGE;
+use base::storing::block_at;
 
 // FIPS 197, A.1: the 44 words of its schedule.
 const WORDS_A1: [u8; 176] = [
@@ -299,84 +282,8 @@ const CIPHER_C1: [u8; 16] = [
     0x5a,
 ];
 
-// SP 800-38A, F.1.1 and F.1.2: the four blocks in the clear and enciphered.
-const PLAIN_1: [u8; 16] = [
-    0x6b,
-    0xc1,
-    0xbe,
-    0xe2,
-    0x2e,
-    0x40,
-    0x9f,
-    0x96,
-    0xe9,
-    0x3d,
-    0x7e,
-    0x11,
-    0x73,
-    0x93,
-    0x17,
-    0x2a,
-];
-
-const PLAIN_2: [u8; 16] = [
-    0xae,
-    0x2d,
-    0x8a,
-    0x57,
-    0x1e,
-    0x03,
-    0xac,
-    0x9c,
-    0x9e,
-    0xb7,
-    0x6f,
-    0xac,
-    0x45,
-    0xaf,
-    0x8e,
-    0x51,
-];
-
-const PLAIN_3: [u8; 16] = [
-    0x30,
-    0xc8,
-    0x1c,
-    0x46,
-    0xa3,
-    0x5c,
-    0xe4,
-    0x11,
-    0xe5,
-    0xfb,
-    0xc1,
-    0x19,
-    0x1a,
-    0x0a,
-    0x52,
-    0xef,
-];
-
-const PLAIN_4: [u8; 16] = [
-    0xf6,
-    0x9f,
-    0x24,
-    0x45,
-    0xdf,
-    0x4f,
-    0x9b,
-    0x17,
-    0xad,
-    0x2b,
-    0x41,
-    0x7b,
-    0xe6,
-    0x6c,
-    0x37,
-    0x10,
-];
-
-const CIPHER_1: [u8; 16] = [
+// SP 800-38A, F.1.1 and F.1.2: the message's four blocks, enciphered one by one.
+const ENCIPHERED: [u8; 64] = [
     0x3a,
     0xd7,
     0x7b,
@@ -393,9 +300,6 @@ const CIPHER_1: [u8; 16] = [
     0x66,
     0xef,
     0x97,
-];
-
-const CIPHER_2: [u8; 16] = [
     0xf5,
     0xd3,
     0xd5,
@@ -412,9 +316,6 @@ const CIPHER_2: [u8; 16] = [
     0xfd,
     0xba,
     0xaf,
-];
-
-const CIPHER_3: [u8; 16] = [
     0x43,
     0xb1,
     0xcd,
@@ -431,9 +332,6 @@ const CIPHER_3: [u8; 16] = [
     0x03,
     0x06,
     0x88,
-];
-
-const CIPHER_4: [u8; 16] = [
     0x7b,
     0x0c,
     0x78,
@@ -492,15 +390,15 @@ const DECRYPTED_10000: [u8; 16] = [
 ];
 
 fn encrypts(t: Tally, name: &[u8], key: [u8; 16], plain: [u8; 16], want: [u8; 16]) -> Tally {
-    tally::compared(t, name, aes::encrypt(key, plain), want)
+    report::compared(t, name, aes::encrypt(key, plain), want)
 }
 
 fn decrypts(t: Tally, name: &[u8], key: [u8; 16], enciphered: [u8; 16], want: [u8; 16]) -> Tally {
-    tally::compared(t, name, aes::decrypt(key, enciphered), want)
+    report::compared(t, name, aes::decrypt(key, enciphered), want)
 }
 
 fn encrypted_again(key: [u8; 16], block: [u8; 16], times: usize) -> [u8; 16] {
-    let schedule = schedule::expand(key);
+    let schedule = aes::key_expansion::expand(key);
     let mut b = block;
     let mut n = 0;
     while n < times {
@@ -512,7 +410,7 @@ fn encrypted_again(key: [u8; 16], block: [u8; 16], times: usize) -> [u8; 16] {
 }
 
 fn decrypted_again(key: [u8; 16], block: [u8; 16], times: usize) -> [u8; 16] {
-    let schedule = schedule::expand(key);
+    let schedule = aes::key_expansion::expand(key);
     let mut b = block;
     let mut n = 0;
     while n < times {
@@ -524,39 +422,65 @@ fn decrypted_again(key: [u8; 16], block: [u8; 16], times: usize) -> [u8; 16] {
 }
 
 fn schedule(t: Tally) -> Tally {
-    let got = schedule::expand(KEY_B);
+    let got = aes::key_expansion::expand(KEY);
     let want = WORDS_A1;
-    tally::told(t, b"FIPS 197 A.1, 44 words", check::same(&got, &want))
+    report::told(t, b"FIPS 197 A.1, 44 words", check::same(&got, &want))
 }
 
 fn fips197(t: Tally) -> Tally {
-    let t = encrypts(t, b"FIPS 197 B, encrypted", KEY_B, INPUT_B, OUTPUT_B);
-    let t = decrypts(t, b"FIPS 197 B, decrypted", KEY_B, OUTPUT_B, INPUT_B);
+    let t = encrypts(t, b"FIPS 197 B, encrypted", KEY, INPUT_B, OUTPUT_B);
+    let t = decrypts(t, b"FIPS 197 B, decrypted", KEY, OUTPUT_B, INPUT_B);
     let t = encrypts(t, b"FIPS 197 C.1, encrypted", KEY_C1, PLAIN_C1, CIPHER_C1);
     decrypts(t, b"FIPS 197 C.1, decrypted", KEY_C1, CIPHER_C1, PLAIN_C1)
 }
 
+// The message's block from a place on, and the one that it is enciphered to, which stands at the same place.
+fn encrypts_at(t: Tally, name: &[u8], place: usize) -> Tally {
+    let clear = MESSAGE;
+    let enciphered = ENCIPHERED;
+    encrypts(
+        t,
+        name,
+        KEY,
+        block_at(&clear, place),
+        block_at(&enciphered, place),
+    )
+}
+
+fn decrypts_at(t: Tally, name: &[u8], place: usize) -> Tally {
+    let clear = MESSAGE;
+    let enciphered = ENCIPHERED;
+    decrypts(
+        t,
+        name,
+        KEY,
+        block_at(&enciphered, place),
+        block_at(&clear, place),
+    )
+}
+
 fn sp800_38a_encrypted(t: Tally) -> Tally {
-    let t = encrypts(t, b"SP 800-38A F.1.1, block 1", KEY_B, PLAIN_1, CIPHER_1);
-    let t = encrypts(t, b"SP 800-38A F.1.1, block 2", KEY_B, PLAIN_2, CIPHER_2);
-    let t = encrypts(t, b"SP 800-38A F.1.1, block 3", KEY_B, PLAIN_3, CIPHER_3);
-    encrypts(t, b"SP 800-38A F.1.1, block 4", KEY_B, PLAIN_4, CIPHER_4)
+    let t = encrypts_at(t, b"SP 800-38A F.1.1, block 1", 0);
+    let t = encrypts_at(t, b"SP 800-38A F.1.1, block 2", 16);
+    let t = encrypts_at(t, b"SP 800-38A F.1.1, block 3", 32);
+    encrypts_at(t, b"SP 800-38A F.1.1, block 4", 48)
 }
 
 fn sp800_38a_decrypted(t: Tally) -> Tally {
-    let t = decrypts(t, b"SP 800-38A F.1.2, block 1", KEY_B, CIPHER_1, PLAIN_1);
-    let t = decrypts(t, b"SP 800-38A F.1.2, block 2", KEY_B, CIPHER_2, PLAIN_2);
-    let t = decrypts(t, b"SP 800-38A F.1.2, block 3", KEY_B, CIPHER_3, PLAIN_3);
-    decrypts(t, b"SP 800-38A F.1.2, block 4", KEY_B, CIPHER_4, PLAIN_4)
+    let t = decrypts_at(t, b"SP 800-38A F.1.2, block 1", 0);
+    let t = decrypts_at(t, b"SP 800-38A F.1.2, block 2", 16);
+    let t = decrypts_at(t, b"SP 800-38A F.1.2, block 3", 32);
+    decrypts_at(t, b"SP 800-38A F.1.2, block 4", 48)
 }
 
 fn chains(t: Tally) -> Tally {
     let e = encrypted_again(KEY_C1, PLAIN_C1, 10000);
-    let t = tally::compared(t, b"10000 encryptions", e, ENCRYPTED_10000);
+    let t = report::compared(t, b"10000 encryptions", e, ENCRYPTED_10000);
     let d = decrypted_again(KEY_C1, PLAIN_C1, 10000);
-    tally::compared(t, b"10000 decryptions", d, DECRYPTED_10000)
+    report::compared(t, b"10000 decryptions", d, DECRYPTED_10000)
 }
 
-pub(crate) fn all(t: Tally) -> Tally {
-    chains(sp800_38a_decrypted(sp800_38a_encrypted(fips197(schedule(t)))))
+pub(crate) fn all() {
+    let t = fips197(schedule(report::none()));
+    report::closed(chains(sp800_38a_decrypted(sp800_38a_encrypted(t))));
 }

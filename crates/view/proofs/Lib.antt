@@ -1,2 +1,2 @@
 pub mod Accessor
-pub mod Made
+pub mod ShownFields

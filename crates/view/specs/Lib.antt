@@ -1,1 +1,4 @@
+pub mod FrameFields
+pub mod Parts
+pub mod ViewNumbers
 pub mod Viewed

@@ -1,13 +1,13 @@
--- A view of a frame, from document 01 "Reading": the caller's bytes with the frame's numbers beside them, and its parts.
+-- A view of a frame, from docs/RULES.md, Reading: the caller's bytes with the frame's numbers beside them, and its parts.
 -- Assumes nothing.
 use Prim.Native.Nat.{ℕ}
 use mathlib.Core.List.{List}
 use denote.Ref.{RefT, now}
 use Rattle.frame.specs.Reading.{readOf}
-use Rattle.numbers.specs.Numbers.{valuesOf}
-use Rattle.parts.specs.Parts.{shownOf, within}
+use Rattle.frame.specs.ReadingNumbers.{valuesOf}
+use Rattle.view.specs.Parts.{shownOf, within}
 use Rattle.view.specs.declared.View.{View}
-use Rattle.parts.specs.declared.Field.{Field}
+use Rattle.view.specs.declared.parts.Field.{Field}
 
 -- the view that holds the slice x itself
 abbrev pub viewOf : RefT (List ℕ) → View

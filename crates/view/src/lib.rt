@@ -1,16 +1,18 @@
 // A view of a frame: the caller's bytes with the place of each field in them. A part that is shown is that part of the
 // caller's own slice; nothing is copied.
+use crate::parts::Field;
+use crate::parts::shown;
+use frame::numbers::Values;
+use frame::numbers::values_of;
 use frame::parser::read;
-use numbers::Values;
-use numbers::values_of;
-use parts::Field;
-use parts::shown;
 ghost use mathlib.Core.Path.{_≡_};
 ghost use Rattle.frame.specs.Reading.{readOf};
-ghost use Rattle.numbers.specs.Numbers.{valuesOf};
-ghost use Rattle.parts.specs.Fields.{fieldOf};
-ghost use Rattle.parts.specs.Parts.{seen, within};
+ghost use Rattle.frame.specs.ReadingNumbers.{valuesOf};
+ghost use Rattle.view.specs.FrameFields.{fieldOf};
+ghost use Rattle.view.specs.Parts.{seen, within};
 ghost use Rattle.view.specs.Viewed.{viewOf, partOf};
+
+pub mod parts;
 
 pub struct View<'a> {
     pub bytes: &'a [u8],

@@ -17,7 +17,7 @@ impl<F: CryptoFactory + Default> Judge for F {}
 
 /// What the crate says to a case.
 pub enum Judged {
-    /// The scope document does not hold the two equal here.
+    /// docs/RULES.md does not hold the two equal here.
     Outside,
     /// Only the number is due: the crate leaves the caller's bytes changed where ours must stay.
     Number(u8),

@@ -1,4 +1,4 @@
-//! What a clear join-accept says. The proved reader accepts the frame; the places are the scope document's.
+//! What a clear join-accept says. The proved reader accepts the frame; the places are those of docs/RULES.md, Reading.
 
 use crate::reading::part;
 use crate::{read, Reading, Refusal, Result};

@@ -1,4 +1,4 @@
-//! Refusals, with the scope document's names and numbers.
+//! Refusals, with the names and numbers of docs/RULES.md.
 
 use std::error::Error;
 use std::fmt;

@@ -1,4 +1,4 @@
-//! The scope document's examples P1 to P16, and calls on every length.
+//! The examples P1 to P16 of docs/RULES.md, and calls on every length.
 
 use zinovoky::*;
 

@@ -1,11 +1,11 @@
 -- `cmac::tag` meets its contract: a start, one part and the end give the tag. Assumes nothing.
 use mathlib.Core.Path.{ap, _∙_}
 use borrow.Author.Needs.{needs}
-use Rattle.schedule.specs.Expansion.{keyExpansion}
+use Rattle.aes.specs.KeyExpansion.{keyExpansion}
 use Rattle.cmac.specs.declared.Cmac.{Cmac}
 use Rattle.cmac.specs.Rfc4493.{mac}
 use Rattle.cmac.specs.Running.{absorbed, finished}
-use Rattle.cmac.proofs.Laws.{one-part}
+use Rattle.cmac.proofs.CmacLaws.{one-part}
 use Rattle.cmac.proofs.tag.Statement.{statement}
 use Rattle.cmac.proofs.tag.Tie as tie
 

@@ -2,7 +2,7 @@
 -- buffer.
 -- Assumes nothing.
 use borrow.Author.Needs.{needs}
-use Rattle.text.proofs.Described.{within, cut}
+use Rattle.show_text.proofs.Described.{within, cut}
 use Rattle.show.proofs.main.Statement.{statement}
 use Rattle.show.proofs.main.Tie as tie
 

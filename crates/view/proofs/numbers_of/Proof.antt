@@ -1,7 +1,7 @@
 -- `view::numbers_of` meets its contract: it reads the frame, and gives the numbers of that reading.
 -- Assumes nothing.
 use mathlib.Core.Path.{ap, _∙_}
-use Rattle.numbers.specs.Numbers.{valuesOf}
+use Rattle.frame.specs.ReadingNumbers.{valuesOf}
 use borrow.Author.Needs.{needs}
 use Rattle.view.proofs.numbers_of.Statement.{statement}
 use Rattle.view.proofs.numbers_of.Tie as tie

@@ -37,15 +37,15 @@ use denote.Triple.Table.{entered, cited}
 use denote.Triple.Walked.{says, Stays, stay-none, stay-none-slice, walkOf, goes-none, goes-none-slice, Walks, ends-at, walked, walk-meets}
 use denote.Triple.Clauses.{ensured, lasts}
 use denote.Exit.{yes}
-use Rattle.parts.specs.Fields.{fieldOf}
-use Rattle.parts.specs.Parts.{seen, within}
+use Rattle.view.specs.FrameFields.{fieldOf}
+use Rattle.view.specs.Parts.{seen, within}
 use Rattle.view.specs.Viewed.{viewOf, partOf}
 use Rattle.view.specs.declared.View.{View}
-use Rattle.parts.specs.declared.Field.{Field}
+use Rattle.view.specs.declared.parts.Field.{Field}
 use Rattle.view.proofs.View as T
 use Rattle.view.proofs.View.Laws as T′
-use Rattle.parts.proofs.Field as F
-use Rattle.parts.proofs.Field.Laws as F′
+use Rattle.view.proofs.parts.Field as F
+use Rattle.view.proofs.parts.Field.Laws as F′
 use Rattle.view.proofs.View.of as made
 use Rattle.view.proofs.View.of.Symbol as made-def
 use Rattle.view.proofs.View.of.Symbol.{name as #view·of}
@@ -55,7 +55,7 @@ use Rattle.view.proofs.View.part.Symbol as part-def
 use Rattle.view.proofs.View.part.Symbol.{name as #view·part}
 use Rattle.view.proofs.View.part.Met as part-thm
 use Rattle.view.proofs.Accessor.{Part}
-use Rattle.parts.proofs.Fields.{shows as shows-fields}
+use Rattle.view.proofs.ShownFields.{shows as shows-fields}
 use Rattle.view.proofs.part_of.Key.{name as #view·part-of}
 use Rattle.view.proofs.part_of as part-of
 use Rattle.view.proofs.part_of.Statement as stated

@@ -3,7 +3,7 @@
 use mathlib.Core.Path.{ap, ap₂, _∙_}
 use Prim.Native.Nat.{ℕ}
 use Rattle.base.specs.Bytes.{_⊕_}
-use Rattle.field.specs.Field.{mul}
+use Rattle.aes.specs.Field.{mul}
 use Rattle.aes.specs.Fips197.{mixRow}
 use Rattle.aes.proofs.Linear.{unmixed-right}
 use Rattle.aes.proofs.columns.unmixed.Statement.{statement}

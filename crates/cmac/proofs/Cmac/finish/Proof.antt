@@ -5,7 +5,7 @@ use Prim.Native.Nat.{ℕ}
 use borrow.Author.Needs.{needs}
 use Rattle.aes.specs.Fips197.{cipher}
 use Rattle.cmac.specs.Rfc4493.{subkey1, subkey2}
-use Rattle.blocks.specs.Last.{ended}
+use Rattle.cmac.specs.LastBlock.{ended}
 use Rattle.cmac.specs.Running.{finished}
 use Rattle.cmac.proofs.Cmac.finish.Statement.{statement}
 use Rattle.cmac.proofs.Cmac.finish.Tie as tie

@@ -4,9 +4,9 @@ use borrow.Author.Needs.{needs}
 use mathlib.Core.Path.{ap, sym, _∙_}
 use denote.Ref.{now}
 use lib.ListN.{length}
-use Rattle.build.specs.Building.{dataRefusal}
-use Rattle.build.specs.Frames.{dataFrame}
-use Rattle.build.specs.declared.creator.DataParts.{DataParts}
+use Rattle.frame_build.specs.DataBuilding.{dataRefusal}
+use Rattle.frame_build.specs.DataFrames.{dataFrame}
+use Rattle.frame_build.specs.declared.creator.data_frame.DataParts.{DataParts}
 use Rattle.frame_c.proofs.Buildings.{made, refused-kind, below-data, above-data, of-data}
 use Rattle.frame_c.proofs.building.zinovoky_build_data.Statement.{statement}
 use Rattle.frame_c.proofs.building.zinovoky_build_data.Tie as tie
@@ -19,11 +19,16 @@ returns-2 c = refused-kind (above-data _ _ _ _ _ (c .before .before .if1 .left) 
 
 returns-3 : tie.Need-returns-3
 returns-3 c =
-    let a = c .before .before .before .before .before .before .before .before .before .before .before .before .before .before .args in
-    let parts = c .before .before .before .before .before .data-parts .ensures in
-    made (c .before .before .before .build-data .ensures)
+    let at-build-data = c .before .before .before in
+    let at-data-parts = at-build-data .before .before in
+    let tested2 = at-data-parts .before .before .before .before in
+    let tested = tested2 .before in
+    let start = tested .before .before .before .before in
+    let a = start .args in
+    let parts = at-data-parts .data-parts .ensures in
+    made (at-build-data .build-data .ensures)
     (ap (λ (d : DataParts). dataRefusal d (now (a .commands)) (now (a .payload)) (length (now (a .out)))) parts
-    ∙ sym (of-data _ _ _ _ _ (c .before .before .before .before .before .before .before .before .before .before .if1 .left) (c .before .before .before .before .before .before .before .before .before .if2 .left)))
+    ∙ sym (of-data _ _ _ _ _ (tested .if1 .left) (tested2 .if2 .left)))
     (ap (λ (d : DataParts). dataFrame (now (a .nwk-skey)) (now (a .app-skey)) d (now (a .commands)) (now (a .payload))) parts)
     (c .built-answer .ensures)
 

@@ -1,7 +1,7 @@
 -- `zinovoky_data_mic` answers and stores what `data_mic` finds.
 -- Assumes nothing.
 use borrow.Author.Needs.{needs}
-use Rattle.layout.proofs.Tested.{tested}
+use Rattle.frame_c.proofs.TestedLaws.{tested}
 use Rattle.frame_c.proofs.opening.zinovoky_data_mic.Statement.{statement}
 use Rattle.frame_c.proofs.opening.zinovoky_data_mic.Tie as tie
 

@@ -2,7 +2,7 @@
 -- Assumes nothing.
 use borrow.Author.Needs.{needs}
 use mathlib.Core.Path.{refl}
-use Rattle.frame_c.specs.Given.{nwkGiven, appGiven}
+use Rattle.frame_c.specs.CGiven.{nwkGiven, appGiven}
 use Rattle.frame_c.proofs.Opened.{opened}
 use Rattle.frame_c.proofs.opening.zinovoky_decrypt_data.Statement.{statement}
 use Rattle.frame_c.proofs.opening.zinovoky_decrypt_data.Tie as tie

@@ -2,7 +2,7 @@
 -- Assumes nothing.
 use borrow.Author.Needs.{needs}
 use mathlib.Core.Path.{refl}
-use Rattle.frame_c.specs.Given.{appGiven}
+use Rattle.frame_c.specs.CGiven.{appGiven}
 use Rattle.frame_c.proofs.Opened.{opened}
 use Rattle.frame_c.proofs.opening.zinovoky_decrypt_data_checked.Statement.{statement}
 use Rattle.frame_c.proofs.opening.zinovoky_decrypt_data_checked.Tie as tie

@@ -2,7 +2,7 @@
 -- Assumes nothing.
 use borrow.Author.Needs.{needs}
 use mathlib.Core.Path.{ap, _∙_}
-use Rattle.numbers.specs.Numbers.{valuesOf}
+use Rattle.frame.specs.ReadingNumbers.{valuesOf}
 use Rattle.frame_c.proofs.Fillings.{read-into}
 use Rattle.frame_c.proofs.reading.zinovoky_read.Statement.{statement}
 use Rattle.frame_c.proofs.reading.zinovoky_read.Tie as tie

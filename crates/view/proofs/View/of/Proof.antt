@@ -39,10 +39,10 @@ use denote.Triple.Walked.{says, Stays, stay-none-slice, walkOf, goes-none-slice,
 use denote.Triple.Clauses.{ensured, lasts}
 use denote.Exit.{yes}
 use Rattle.frame.specs.Reading.{readOf}
-use Rattle.numbers.specs.Numbers.{valuesOf}
-use Rattle.numbers.specs.declared.Values.{Values}
-use Rattle.numbers.proofs.Values as N
-use Rattle.numbers.proofs.Values.Laws as N′
+use Rattle.frame.specs.ReadingNumbers.{valuesOf}
+use Rattle.frame.specs.declared.numbers.Values.{Values}
+use Rattle.frame.proofs.numbers.Values as N
+use Rattle.frame.proofs.numbers.Values.Laws as N′
 use Rattle.view.specs.declared.View.{View}
 use Rattle.view.proofs.View as T
 use Rattle.view.proofs.View.Laws as T′

@@ -43,20 +43,20 @@ use denote.Triple.Table.{entered, cited}
 use denote.Triple.Walked.{says, Stays, stay-none, walkOf, goes-none, Walks, ends-at, walked, walk-meets}
 use denote.Triple.Clauses.{ensured, lasts}
 use denote.Exit.{yes}
-use Rattle.parts.specs.Parts.{seen}
+use Rattle.view.specs.Parts.{seen}
 use Rattle.view.specs.Viewed.{partOf}
 use Rattle.view.specs.declared.View.{View}
-use Rattle.parts.specs.declared.Field.{Field}
+use Rattle.view.specs.declared.parts.Field.{Field}
 use Rattle.view.proofs.View as T
 use Rattle.view.proofs.View.Laws as T′
-use Rattle.numbers.proofs.Values as N
-use Rattle.numbers.proofs.Values.Laws as N′
-use Rattle.parts.proofs.Field as F
-use Rattle.parts.proofs.Field.Laws as F′
-use Rattle.parts.proofs.shown as shown
-use Rattle.parts.proofs.shown.Symbol as shown-def
-use Rattle.parts.proofs.shown.Symbol.{name as #parts·shown}
-use Rattle.parts.proofs.shown.Met as shown-thm
+use Rattle.frame.proofs.numbers.Values as N
+use Rattle.frame.proofs.numbers.Values.Laws as N′
+use Rattle.view.proofs.parts.Field as F
+use Rattle.view.proofs.parts.Field.Laws as F′
+use Rattle.view.proofs.parts.shown as shown
+use Rattle.view.proofs.parts.shown.Symbol as shown-def
+use Rattle.view.proofs.parts.shown.Symbol.{name as #view·parts·shown}
+use Rattle.view.proofs.parts.shown.Met as shown-thm
 use Rattle.view.proofs.View.part.Key.{name as #view·part}
 use Rattle.view.proofs.View.part as part
 use Rattle.view.proofs.View.part.Statement as stated
@@ -145,7 +145,7 @@ module _ {M : Type 1} (𝓤 : URA M) (H : Heap 𝓤) (A : Atoms 𝓤) (W : Given
         move ! (1 ∷ []) $ frame ! $ nothing ! $ owned ! F.the-row (Is F.the-row) (EL.makes F.the-type F′.the-plain 𝓤 H A) field _ field-is $ fjoin ! $
         move ! (2 ∷ 0 ∷ []) $ fjoin ! $ frame ! $ done !
 
-    module _ (C : Calls 𝓤 H) (Λ : Loops 𝓤 H) (fm : FmC 𝓤 H (W .laws) C) (known : Triple 𝓤 (C #parts·shown) (Shown 𝓤 H A mem run)) where
+    module _ (C : Calls 𝓤 H) (Λ : Loops 𝓤 H) (fm : FmC 𝓤 H (W .laws) C) (known : Triple 𝓤 (C #view·parts·shown) (Shown 𝓤 H A mem run)) where
       walk : Is N.the-row (d .numbers) (numbers-val ∷ []) → Holds (hasTy (T′.mir (named 0)) whole-val) × WT whole-val
           → ent 𝓤 (onEntry 𝓤 H A part.signature (κ, tt) (q, tt) (d, (field, tt)) vals) (WpFn 𝓤 H C Λ code.function (whole-val ∷ field-val ∷ []) Post)
       walk numbers-are wt =
@@ -168,7 +168,7 @@ module _ {M : Type 1} (𝓤 : URA M) (H : Heap 𝓤) (A : Atoms 𝓤) (W : Given
           by ! (exits r u e))))))))))
 
 module _ {M : Type 1} (𝓤 : URA M) (H : Heap 𝓤) (A : Atoms 𝓤) (W : Given 𝓤 H A) (mem : Memory → SProp 𝓤) (run : Routine → Fun 𝓤) where
-  part-walks : (C : Calls 𝓤 H) (Λ : Loops 𝓤 H) → FmC 𝓤 H (W .laws) C → Triple 𝓤 (C #parts·shown) (Shown 𝓤 H A mem run)
+  part-walks : (C : Calls 𝓤 H) (Λ : Loops 𝓤 H) → FmC 𝓤 H (W .laws) C → Triple 𝓤 (C #view·parts·shown) (Shown 𝓤 H A mem run)
       → Walks 𝓤 H A part.ended stayed (WpFn 𝓤 H C Λ code.function) (part.clauses 𝓤 H A mem run)
   part-walks C Λ fm known =
       walked 𝓤 H A part.ended stayed (part.clauses 𝓤 H A mem run) (WpFn 𝓤 H C Λ code.function)
@@ -181,7 +181,7 @@ module _ {M : Type 1} (𝓤 : URA M) (H : Heap 𝓤) (A : Atoms 𝓤) (W : Given
       (LL.lawful (T.the-type (lifetime κs)) (T′.the-laws (lifetime κs)) 𝓤 H A W .typed (a .0) _ (are .0) .0)))
 
 part-meets : {M : Type 1} (𝓤 : URA M) (H : Heap 𝓤) (A : Atoms 𝓤) (W : Given 𝓤 H A) (mem : Memory → SProp 𝓤) (run : Routine → Fun 𝓤) (𝓣 : Tables 𝓤 H)
-    → Triple 𝓤 (𝓣 .C #parts·shown) (Shown 𝓤 H A mem run) → Meets 𝓤 H A part.signature (WpFn 𝓤 H (𝓣 .C) (𝓣 .Λ) code.function) (part.spec 𝓤 H A mem run)
+    → Triple 𝓤 (𝓣 .C #view·parts·shown) (Shown 𝓤 H A mem run) → Meets 𝓤 H A part.signature (WpFn 𝓤 H (𝓣 .C) (𝓣 .Λ) code.function) (part.spec 𝓤 H A mem run)
 part-meets 𝓤 H A W mem run 𝓣 known =
     walk-meets 𝓤 H A part.ended stayed W (goes-none 𝓤 H A W 1 Viewed yes (λ κs x f. refl), (goes-none 𝓤 H A W 1 (λ _. F.the-row) yes (λ κs x f. refl), tt)) (part.clauses 𝓤 H A mem run)
     (WpFn 𝓤 H (𝓣 .C) (𝓣 .Λ) code.function) (WpFn-mono 𝓤 H (W .laws) 𝓣 code.function) (part-walks 𝓤 H A W mem run (𝓣 .C) (𝓣 .Λ) (fmOf 𝓤 H (W .laws) 𝓣) known)
@@ -192,4 +192,4 @@ part-spec 𝓤 H 𝓜 𝓖 𝓡 =
     entered 𝓤 H (tripleOf 𝓤 H (𝓖 .A) part.signature (part.spec 𝓤 H (𝓖 .A) (𝓜 .mem) (𝓡 .run)))
     (tables 𝓤 H 𝓜 𝓡 code.env .C) (tables 𝓤 H 𝓜 𝓡 code.env .Λ) #view·part code.function (code.unfolded 𝓤 H 𝓜 𝓡)
     (part-meets 𝓤 H (𝓖 .A) (givenOf 𝓤 H 𝓜 𝓖) (𝓜 .mem) (𝓡 .run) (tablesOf 𝓤 H 𝓜 (tables 𝓤 H 𝓜 𝓡 code.env))
-    (cited 𝓤 H (Shown 𝓤 H (𝓖 .A) (𝓜 .mem) (𝓡 .run)) 𝓜 𝓡 code.env #parts·shown shown-def.routine code.calls-parts·shown (shown-thm.met 𝓤 H 𝓜 𝓖 𝓡)))
+    (cited 𝓤 H (Shown 𝓤 H (𝓖 .A) (𝓜 .mem) (𝓡 .run)) 𝓜 𝓡 code.env #view·parts·shown shown-def.routine code.calls-view·parts·shown (shown-thm.met 𝓤 H 𝓜 𝓖 𝓡)))

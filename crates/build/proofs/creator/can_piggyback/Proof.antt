@@ -1,8 +1,0 @@
--- `can_piggyback` meets its contract: it makes the definition's own test.
--- Assumes nothing.
-use borrow.Author.Needs.{needs}
-use Rattle.build.proofs.creator.can_piggyback.Statement.{statement}
-use Rattle.build.proofs.creator.can_piggyback.Tie as tie
-
-pub can-piggyback-spec : {M : Type 1} → statement M
-can-piggyback-spec = tie.close (tie.spec (λ c. search needs))

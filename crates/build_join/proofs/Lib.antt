@@ -1,5 +1,0 @@
-pub mod BuildingRefusals
-pub mod BuiltLaws
-pub mod JoinBodies
-pub mod ReadBackJoin
-pub mod ReadBackOpened

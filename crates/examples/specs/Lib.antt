@@ -1,2 +1,0 @@
-pub mod Fips197
-pub mod Rfc4493

@@ -1,0 +1,6 @@
+pub mod DataBuiltLaws
+pub mod DataHeader
+pub mod DataRefusals
+pub mod FirstTest
+pub mod JoinBodies
+pub mod JoinBuiltLaws

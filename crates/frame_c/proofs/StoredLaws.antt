@@ -1,0 +1,55 @@
+-- A call that stores its answer's bytes keeps its promise where it is refused and stores nothing, and where there is room
+-- and the bytes stand at the start of the output.
+-- Assumes nothing.
+use mathlib.Core.Path.{_≡_, refl, sym, ap, _∙_}
+use mathlib.Core.Bool.{Bool, true, false}
+use mathlib.Core.List.{List, _++_}
+use Prim.Native.Nat.{ℕ, _<_, _≤_}
+use native.Mathlib.Omega.{arith}
+use lib.Dec.{eqb}
+use lib.ListN.{length, drop}
+use mir.Val.{boolByte}
+use borrow.Author.Tests.{lt-ltb, eq-eqb, ne-eqb}
+use Rattle.base.specs.Bytes.{pick}
+use Rattle.base.proofs.Cases.{by-order, by-equal}
+use Rattle.base.specs.Storing.{Put}
+use Rattle.base.proofs.Put.{put-front}
+use Rattle.frame_build.specs.DataFrames.{outOf}
+use Rattle.frame_c.specs.CAnswers.{cAnswer, orShort, Fills}
+
+-- without room the answer is 7, or the refusal that comes first
+no-room : (n k room : ℕ) → room < k → orShort n k room ≡ 0 → ⊥
+unfolding orShort
+no-room n k room h e =
+    let q : pick (eqb n 0) 7 n ≡ 0 = ap (λ (b : Bool). pick (eqb n 0) (pick b 7 0) n) (sym (lt-ltb room k h)) ∙ e in
+    by-equal n 0
+    (λ z. let seven : _≡_ {A = ℕ} 7 0 = ap (λ (b : Bool). pick b 7 n) (sym (eq-eqb n 0 z)) ∙ q in omega arith)
+    (λ z. z (ap (λ (b : Bool). pick b 7 n) (sym (ne-eqb n 0 z)) ∙ q))
+
+pub room-left : (n k room : ℕ) {x : ℕ} → x ≡ orShort n k room → x ≡ 0 → k ≤ room
+room-left n k room e z = by-order k room (λ h. h) (λ h. absurd (no-room n k room h (sym e ∙ z)))
+
+pub refused : {n p x : ℕ} {b l : List ℕ} {r : ℕ} → x ≡ n → (x ≡ 0 → ⊥) → r ≡ cAnswer x p → Fills n p b l r l
+refused {n} {p} {x} {b} {l} {r} e h a =
+    record {
+      answer = a ∙ ap (λ (k : ℕ). cAnswer k p) e;
+      output = sym (ap (λ (t : Bool). pick t (b ++ drop (length b) l) l) (ne-eqb n 0 (λ z. h (e ∙ z))));
+    }
+
+pub stored : (m k : ℕ) {p x : ℕ} {b s l e : List ℕ} {r j : ℕ} → x ≡ orShort m k (length l) → x ≡ 0 → length s ≡ k → s ≡ b
+    → r ≡ cAnswer 0 p
+    → Put l 0 s j e
+    → Fills (orShort m k (length l)) p b l r e
+stored m k {p} {x} {b} {s} {l} {e} {r} {j} u z w h a put =
+    let none : orShort m k (length l) ≡ 0 = sym u ∙ z in
+    let room : length s ≤ length l = omega (arith, w, room-left m k (length l) u z) in
+    record {
+      answer = a ∙ ap (λ (n : ℕ). cAnswer n p) (sym none);
+      output =
+          put-front put room ∙ ap (λ (t : List ℕ). t ++ drop (length t) l) h ∙ ap (λ (n : ℕ). outOf n b l) (sym none);
+    }
+
+-- a bool as a byte
+pub one-if : (b : Bool) → boolByte b ≡ pick b 1 0
+one-if true = refl
+one-if false = refl

@@ -1,0 +1,4 @@
+pub mod AcceptLaws
+pub mod CheckedLaws
+pub mod OpeningLaws
+pub mod SessionLaws

@@ -1,0 +1,4 @@
+pub mod CheckedOpening
+pub mod FrameOpening
+pub mod JoinAcceptOpening
+pub mod SessionKeys

@@ -1,0 +1,5 @@
+pub mod AcceptBlocks
+pub mod MicCompared
+pub mod MicLaws
+pub mod SealingLaws
+pub mod SecurityLaws

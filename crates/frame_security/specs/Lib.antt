@@ -1,0 +1,4 @@
+pub mod JoinAcceptCipher
+pub mod Mic
+pub mod Sealing
+pub mod Security

@@ -1,3 +1,0 @@
-pub mod AcceptLaws
-pub mod Blocks
-pub mod SessionLaws

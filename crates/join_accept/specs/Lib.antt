@@ -1,2 +1,0 @@
-pub mod JoinAccept
-pub mod Session

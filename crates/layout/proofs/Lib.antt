@@ -1,2 +1,0 @@
-mod Fillings
-pub mod Tested

@@ -1,7 +1,0 @@
-// How answers and parts stand in numbers and bytes for C: an answer as one number, a reading and session keys as bytes, the
-// parts of a frame from the numbers and bytes that a caller gives.
-pub mod answers;
-pub mod building;
-pub mod opening;
-pub mod reading;
-mod storing;

@@ -1,8 +1,0 @@
--- `port_number`: one answer for each case.
--- Assumes nothing.
-use borrow.Author.Needs.{needs}
-use Rattle.numbers.proofs.port_number.Statement.{statement}
-use Rattle.numbers.proofs.port_number.Tie as tie
-
-pub port-number-spec : {M : Type 1} → statement M
-port-number-spec = tie.close (tie.spec (λ c. search needs) (λ c. search needs) (λ c. search needs) (λ c. search needs))

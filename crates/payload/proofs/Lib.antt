@@ -1,3 +1,0 @@
-pub mod DecryptionLaws
-pub mod OpenedLaws
-pub mod OpeningLaws

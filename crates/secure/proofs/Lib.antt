@@ -1,2 +1,0 @@
-pub mod SealingLaws
-pub mod SecurityLaws

@@ -1,2 +1,0 @@
-// Keys and secrets of a LoRaWAN 1.0 frame, after crate lorawan 0.9.0: the module has the name of that crate's file.
-pub mod securityhelpers;

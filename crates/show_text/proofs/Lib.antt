@@ -1,0 +1,4 @@
+pub mod Described
+pub mod Digits
+pub mod Fields
+pub mod Lengths

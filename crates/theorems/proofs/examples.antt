@@ -1,0 +1,5 @@
+pub mod ByList
+pub mod Fips197
+pub mod ProvedTable
+pub mod Rfc4493
+pub mod ShownText

@@ -1,0 +1,2 @@
+pub mod FctrlBits
+pub mod Views

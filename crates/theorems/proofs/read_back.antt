@@ -1,0 +1,6 @@
+pub mod DataOpens
+pub mod DataParts
+pub mod JoinOpens
+pub mod JoinParts
+pub mod Opened
+pub mod OpenedParts

@@ -1,0 +1,98 @@
+-- A data frame that was built passes its MIC test and opens to the clear payload or commands, and says which of the two it
+-- holds. What `ReadBackData` shows of the parts, said of what the calls answer.
+-- Assumes nothing.
+use mathlib.Core.Path.{_≡_, sym, ap, ap₂, _∙_}
+use mathlib.Core.Bool.{Bool}
+use mathlib.Core.List.{List, _++_}
+use Prim.Native.Nat.{ℕ, _+_, _<_}
+use native.Mathlib.Omega.{arith}
+use lib.Dec.{eqb}
+use lib.ListN.{length}
+use borrow.Author.Tests.{eqb-true, eqb-false}
+use Rattle.base.specs.Bytes.{pick}
+use Rattle.base.proofs.Cases.{by-bool, by-order}
+use Rattle.frame.specs.Layout.{fcnt, fport, fhdrLength, header, payload, payloadStart, payloadEnd, micOf}
+use Rattle.frame.specs.Conditions.{IsData}
+use Rattle.frame.specs.Reading.{portOf, payloadOf}
+use Rattle.frame.specs.declared.parser.FPort.the-variants.{Absent, Port}
+use Rattle.frame.specs.declared.parser.FrmPayload.{FrmPayload}
+use Rattle.frame.specs.declared.parser.FrmPayload.the-variants.{Data as PlainData, MacCommands}
+use Rattle.frame.proofs.ReadingLaws.{data-read}
+use Rattle.frame.proofs.ReadingSteps.{port-there, port-absent, payload-commands, payload-data}
+use Rattle.frame_opening.specs.FrameOpening.{result, dataTest, dataOpened, givenKey}
+use Rattle.frame_security.specs.Security.{crypted, frameKey, fullCounter}
+use Rattle.frame_opening.specs.declared.mic_tests.MicTest.the-variants.{Passes}
+use Rattle.frame_opening.specs.declared.payload.Opening.the-variants.{Opened}
+use Rattle.theorems.proofs.read_back.Opened.{data-mic-exactly}
+use Rattle.theorems.proofs.read_back.OpenedParts.{opened-both}
+use Rattle.frame_build.specs.DataBuilding.{bodyOf, dataHeader, dataRefusal}
+use Rattle.frame_build.specs.DataFrames.{dataFrame}
+use Rattle.frame_build.specs.declared.creator.data_frame.DataParts.{DataParts}
+use Rattle.theorems.proofs.read_back.DataParts.{DataBack, data-back}
+
+-- what a port says of the payload behind it
+abbrev pub heldBy : ℕ → ℕ → ℕ → FrmPayload
+heldBy port start end = pick (eqb port 0) (MacCommands start end) (PlainData start end)
+
+-- a port that is reported stands in its place, with a byte behind it
+port-byte : (f : List ℕ) (q : ℕ) → portOf f ≡ Port q → (fhdrLength f + 6 < length f) × (fport f ≡ q)
+port-byte f q e =
+    by-order (length f) (fhdrLength f + 6)
+    (λ l.
+    let none : portOf f ≡ Absent = port-absent f l in
+    let z : _≡_ {A = ℕ} 0 1 = cc in
+    absurd (omega arith))
+    (λ l.
+    let one : portOf f ≡ Port (fport f) = port-there f l in
+    (l, cc))
+
+held-by : (f : List ℕ) (q : ℕ) → portOf f ≡ Port q → payloadOf f ≡ heldBy q (payloadStart f) (payloadEnd f)
+held-by f q e =
+    let p = port-byte f q e in
+    by-bool (eqb q 0)
+    (λ t.
+    payload-commands f (p .0) (p .1 ∙ eqb-true q 0 t)
+    ∙ ap (λ (b : Bool). pick b (MacCommands (payloadStart f) (payloadEnd f)) (PlainData (payloadStart f) (payloadEnd f)))
+    (sym t))
+    (λ t.
+    payload-data f (p .0) (λ z. eqb-false q 0 t (sym (p .1) ∙ z))
+    ∙ ap (λ (b : Bool). pick b (MacCommands (payloadStart f) (payloadEnd f)) (PlainData (payloadStart f) (payloadEnd f)))
+    (sym t))
+
+-- what the calls answer of a built frame f
+pub record DataOpens (nwk app : List ℕ) (d : DataParts) (commands body f : List ℕ) : Type 0 where
+  pub passes : dataTest nwk (d .fcnt) f ≡ Passes
+  pub opens : dataOpened (givenKey nwk) (givenKey app) (d .fcnt) f
+      ≡ result Opened (dataHeader d commands ++ (bodyOf (d .port) commands body ++ micOf f))
+  -- commands on port 0, data on another, where there is a byte
+  pub holds : (q : ℕ) → d .port ≡ Port q → 0 < length (bodyOf (d .port) commands body)
+      → payloadOf f ≡ heldBy q (payloadStart f) (payloadEnd f)
+
+module _ (nwk app : List ℕ) (d : DataParts) (commands body f : List ℕ) (b : DataBack nwk app d commands body f) where
+  is-data : IsData f
+  is-data = data-read f (b .reads)
+
+  whole-counter : fullCounter (d .fcnt) (fcnt f) ≡ d .fcnt
+  unfolding fullCounter
+  whole-counter = omega (arith, b .count)
+
+  opened-back : dataOpened (givenKey nwk) (givenKey app) (d .fcnt) f
+      ≡ result Opened (dataHeader d commands ++ (bodyOf (d .port) commands body ++ micOf f))
+  opened-back =
+      opened-both nwk app f (d .fcnt) is-data
+      ∙ ap (λ (c : ℕ). result Opened (header f ++ (crypted (frameKey f nwk app) (header f) c (payload f) ++ micOf f)))
+      whole-counter
+      ∙ ap₂ (λ (s t : List ℕ). result Opened (s ++ (t ++ micOf f))) (b .header-back) (b .payload-back)
+
+  opens-back : DataOpens nwk app d commands body f
+  opens-back =
+      record {
+        passes = data-mic-exactly nwk f (d .fcnt) is-data .back (b .mic-back);
+        opens = opened-back;
+        holds = λ q e some. held-by f q (b .port q e some);
+      }
+
+pub data-opens : (nwk app : List ℕ) (d : DataParts) → length (d .«dev_addr») ≡ 4 → (commands body : List ℕ) (room : ℕ)
+    → dataRefusal d commands body room ≡ 0 → DataOpens nwk app d commands body (dataFrame nwk app d commands body)
+data-opens nwk app d four commands body room e =
+    opens-back nwk app d commands body (dataFrame nwk app d commands body) (data-back nwk app d four commands body room e)

@@ -1,0 +1,2 @@
+pub mod BuildingRefusals
+pub mod ReadingRefusals

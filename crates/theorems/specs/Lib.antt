@@ -1,0 +1,3 @@
+pub mod PrintedFips197
+pub mod PrintedRfc4493
+pub mod WrongVersions
