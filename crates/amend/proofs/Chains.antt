@@ -121,7 +121,7 @@ module _ (ks m : List ℕ) (last : ℕ) where
   chainsOf-at = at-tab 256 (λ j. pick (leb (j / 16) last) (at (chain ks m (j / 16 + 1)) (j % 16)) 0)
 
 -- a byte by the block that holds it
-by-block : (s : List ℕ) (j : ℕ) → at s j ≡ at (part (16 * (j / 16)) 16 s) (j % 16)
+pub by-block : (s : List ℕ) (j : ℕ) → at s j ≡ at (part (16 * (j / 16)) 16 s) (j % 16)
 by-block s j =
     let whole : 16 * (j / 16) + j % 16 ≡ j = omega arith in
     sym (at-part (16 * (j / 16)) 16 s (j % 16) (omega arith) ∙ ap (at s) whole)

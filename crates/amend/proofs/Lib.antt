@@ -3,8 +3,12 @@ pub mod Carrying
 pub mod Chains
 pub mod Demand3
 pub mod ListLaws
+pub mod ListTurns
+pub mod Merging
 pub mod OneByte
 pub mod OpeningLaws
 pub mod Sealed
+pub mod SignedAgain
+pub mod SignedOnce
 pub mod Stores
 pub mod Within

@@ -1,58 +1,24 @@
--- The call that takes a frame and a whole list of amendments: one turn of its loop, and the three ways in which it ends.
+-- The call that takes a frame and a whole list of amendments: the three ways in which it ends.
 -- Assumes nothing.
-use mathlib.Core.Path.{_≡_, sym, ap, ap₂, _∙_}
+use mathlib.Core.Path.{_≡_, sym, ap, ap₂, _∙_, subst}
 use mathlib.Core.Bool.{Bool}
 use mathlib.Core.List.{List, [], _++_, append-nil}
-use Prim.Native.Nat.{ℕ, _+_, _-_, _/_, _%_, _≤_, _<_}
-use native.Mathlib.Numerals.{add-one}
+use Prim.Native.Nat.{ℕ, _+_, _≤_}
 use native.Mathlib.Omega.{arith}
 use lib.Dec.{eqb}
 use lib.ListN.{length, take, drop, drop-of-length-le}
-use lib.Seq.{sets, sets-eq, drop-cons}
+use lib.Seq.{sets, sets-eq}
 use borrow.Author.Tests.{eq-eqb, ne-eqb}
-use Rattle.base.specs.Bytes.{pick, at}
-use Rattle.frame.specs.Refusals.{notRefused}
+use Rattle.base.specs.Bytes.{pick}
 use Rattle.amend.specs.declared.amending.Open.{Open}
 use Rattle.amend.specs.declared.opening.Opened.{Opened}
 use Rattle.amend.specs.declared.amending.Amended.{Amended}
 use Rattle.frame.specs.declared.refusals.Refusal.{Refusal}
-use Rattle.amend.specs.Amending.{amendOf}
 use Rattle.amend.specs.OpenFrame.{openOf}
 use Rattle.amend.specs.AmendmentLists.{amendAll, amendFrameOf, amendedFrame}
+use Rattle.amend.specs.SignedOnce.{amendListOf}
 use Rattle.amend.proofs.Accepted.{opens-accepted}
-
--- ---- the loop
-
--- the amendment in turn
-from-there : (s : Open) (es : List ℕ) (i : ℕ) → i < length es
-    → amendAll s (drop i es)
-    ≡ pick (eqb (amendOf s (at es i / 256) (at es i % 256) .refusal .number) 0)
-    (amendAll (amendOf s (at es i / 256) (at es i % 256) .state) (drop (i + 1) es))
-    (amendOf s (at es i / 256) (at es i % 256))
-unfolding amendAll
-from-there s es i h =
-    let a = amendOf s (at es i / 256) (at es i % 256) in
-    ap (amendAll s) (drop-cons es i 0 h)
-    ∙ ap (λ (n : ℕ). pick (eqb (a .refusal .number) 0) (amendAll (a .state) (drop n es)) a) (sym (add-one i))
-
-module _ (s : Open) (es : List ℕ) (i : ℕ) (r : Amended) (h : i < length es) (e : r ≡ amendOf s (at es i / 256) (at es i % 256)) where
-  turn : amendAll s (drop i es) ≡ pick (eqb (r .refusal .number) 0) (amendAll (r .state) (drop (i + 1) es)) r
-  turn = from-there s es i h ∙ ap (λ (a : Amended). pick (eqb (a .refusal .number) 0) (amendAll (a .state) (drop (i + 1) es)) a) (sym e)
-
-  pub goes-on : r .refusal .number ≡ 0 → amendAll (r .state) (drop (i + 1) es) ≡ amendAll s (drop i es)
-  goes-on z =
-      sym (turn ∙ ap (λ (t : Bool). pick t (amendAll (r .state) (drop (i + 1) es)) r) (eq-eqb (r .refusal .number) 0 z))
-
-  pub ends-refused : (r .refusal .number ≡ 0 → ⊥) → r ≡ amendAll s (drop i es)
-  ends-refused n =
-      sym (turn ∙ ap (λ (t : Bool). pick t (amendAll (r .state) (drop (i + 1) es)) r) (ne-eqb (r .refusal .number) 0 n))
-
-pub ends-whole : (s : Open) (es : List ℕ) (i : ℕ) → length es ≤ i
-    → record { refusal = notRefused; state = s } ≡ amendAll s (drop i es)
-unfolding amendAll
-ends-whole s es i h = ap (amendAll s) (sym (drop-of-length-le es h))
-
--- ---- the call
+use Rattle.amend.proofs.SignedOnce.{Alike, list-alike}
 
 -- a string that takes the place of another of its length
 pub whole-stored : (f g : List ℕ) → length g ≡ length f → sets f 0 g ≡ g
@@ -104,29 +70,27 @@ module _ (f nwk app : List ℕ) (counter : ℕ) (es : List ℕ) (o : Opened) (eo
           ∙ ap (λ (t : Bool). pick t (take (length f) (amendAll (o .state) es .state .frame)) f) (ne-eqb (o .refusal .number) 0 n)),
     )
 
-  module _ (z : o .refusal .number ≡ 0) (a : Amended) (ea : a ≡ amendAll (o .state) es) where
+  module _ (z : o .refusal .number ≡ 0) (a : Amended) (ea : a ≡ amendListOf (o .state) es) where
+    abbrev turns : Amended
+    turns = amendAll (o .state) es
+
+    same : Alike a turns
+    same = subst (λ (x : Amended). Alike x turns) (sym ea) (list-alike (o .state) es)
+
     list-outcome : a .refusal ≡ amendFrameOf f nwk app counter es
     list-outcome =
-        sym
-        (outcome
-        ∙ ap
-        (λ (t : Bool).
-        pick t (amendAll (o .state) es .refusal)
-        (o .refusal))
-        (eq-eqb (o .refusal .number) 0 z)
-        ∙ ap (λ (x : Amended). x .refusal) (sym ea))
+        sym (outcome ∙ ap (λ (t : Bool). pick t (turns .refusal) (o .refusal)) (eq-eqb (o .refusal .number) 0 z) ∙ sym (same .refusal))
 
-    list-left : amendedFrame f nwk app counter es ≡ pick (eqb (a .refusal .number) 0) (take (length f) (a .state .frame)) f
-    list-left =
-        left (a .refusal .number) (ap (λ (x : Refusal). x .number) (sym list-outcome))
-        ∙ ap (λ (x : Amended). pick (eqb (a .refusal .number) 0) (take (length f) (x .state .frame)) f) (sym ea)
+    list-left : amendedFrame f nwk app counter es ≡ pick (eqb (a .refusal .number) 0) (take (length f) (turns .state .frame)) f
+    list-left = left (a .refusal .number) (ap (λ (x : Refusal). x .number) (sym list-outcome))
 
     pub whole-list : a .refusal .number ≡ 0
         → (a .refusal ≡ amendFrameOf f nwk app counter es)
         × (take (length f) (a .state .frame) ≡ amendedFrame f nwk app counter es)
     whole-list y = (
       list-outcome,
-      sym (list-left ∙ ap (λ (t : Bool). pick t (take (length f) (a .state .frame)) f) (eq-eqb (a .refusal .number) 0 y)),
+      ap (λ (s : Open). take (length f) (s .frame)) (same .state y)
+          ∙ sym (list-left ∙ ap (λ (t : Bool). pick t (take (length f) (turns .state .frame)) f) (eq-eqb (a .refusal .number) 0 y)),
     )
 
     pub refused-list : (a .refusal .number ≡ 0 → ⊥)
@@ -134,5 +98,5 @@ module _ (f nwk app : List ℕ) (counter : ℕ) (es : List ℕ) (o : Opened) (eo
         × (f ≡ amendedFrame f nwk app counter es)
     refused-list n = (
       list-outcome,
-      sym (list-left ∙ ap (λ (t : Bool). pick t (take (length f) (a .state .frame)) f) (ne-eqb (a .refusal .number) 0 n)),
+      sym (list-left ∙ ap (λ (t : Bool). pick t (take (length f) (turns .state .frame)) f) (ne-eqb (a .refusal .number) 0 n)),
     )

@@ -9,7 +9,7 @@ use lib.Seq.{sets, sets-eq, take-all, take-at, drop-at, take-set-le, drop-set-lt
 use Rattle.base.specs.Bytes.{part}
 use Rattle.base.proofs.Parts.{part-take}
 
-take-sets : (n : ℕ) (l : List ℕ) (a : ℕ) (vs : List ℕ) → n ≤ a → take n (sets l a vs) ≡ take n l
+pub take-sets : (n : ℕ) (l : List ℕ) (a : ℕ) (vs : List ℕ) → n ≤ a → take n (sets l a vs) ≡ take n l
 take-sets n l a [] h = refl
 take-sets n l a (x ∷ vs) h = take-sets n (set l a x) (suc a) vs (omega arith) ∙ take-set-le n l a x h
 

@@ -1,3 +1,4 @@
 pub mod Amending
 pub mod AmendmentLists
 pub mod OpenFrame
+pub mod SignedOnce

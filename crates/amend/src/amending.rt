@@ -101,7 +101,7 @@ fn payload_mask(
 }
 
 // The frame and its chain values after byte `p` of it was changed, signed anew; `n` bytes are ahead of the MIC.
-fn resign(schedule: [u8; 176], frame: &mut [u8], chains: &mut [u8], n: usize, p: usize)
+pub(crate) fn resign(schedule: [u8; 176], frame: &mut [u8], chains: &mut [u8], n: usize, p: usize)
     requires { ⌜ (p < n) × (n + 4 ≤ length (now frame)) × (length (now chains) ≡ 256) × (n ≤ 251) ⌝ }
     ensures { λ _. ⌜ now (chains .exit) ≡ carried schedule (now (frame .entry)) n p (now (chains .entry)) ⌝ }
     ensures { λ _. ⌜ now (frame .exit) ≡ resigned schedule (now (frame .entry)) n p (now (chains .entry)) ⌝ }
@@ -112,7 +112,7 @@ fn resign(schedule: [u8; 176], frame: &mut [u8], chains: &mut [u8], n: usize, p:
 }
 
 // How many payload bytes there are, by FCtrl and the length of the frame; past 255 bytes there are none.
-fn payload_length(fctrl: u8, total: usize) -> usize
+pub(crate) fn payload_length(fctrl: u8, total: usize) -> usize
     ensures { λ r. ⌜ r ≡ pick (leb total 255) (total - 4 - (7 + fctrl % 16 + 2)) 0 ⌝ }
 {
     let start = fhdr_length(fctrl) + 2;

@@ -47,11 +47,11 @@ in-frame : (f : List ℕ) (j : ℕ) → j < length (payload f) → at f (headerE
 in-frame f j h =
     sym (at-part (headerEnd f) (payloadEnd f - headerEnd f) f j (omega (arith, length-payload f)))
 
--- what stays of the frame f in the state s after a list
-pub record Keeps (f : List ℕ) (list : List Amendment) (s : Open) : Type 0 where
-  pub ahead : (i : ℕ) → i < headerEnd f → at (s .frame) i ≡ at f i
+-- what stays of the frame f in the bytes g after a list
+pub record Keeps (f : List ℕ) (list : List Amendment) (g : List ℕ) : Type 0 where
+  pub ahead : (i : ℕ) → i < headerEnd f → at g i ≡ at f i
   pub others : (j : ℕ) → j < length (payload f) → Unnamed (length (payload f)) j list
-      → at (s .frame) (headerEnd f + j) ≡ at f (headerEnd f + j)
+      → at g (headerEnd f + j) ≡ at f (headerEnd f + j)
 
 module _ (f nwk app : List ℕ) (counter : ℕ) (a : Accepted f nwk counter) (list : List Amendment) where
   abbrev p : List ℕ
@@ -86,19 +86,23 @@ module _ (f nwk app : List ℕ) (counter : ℕ) (a : Accepted f nwk counter) (li
       ∙ ap (λ (l : List ℕ). at l j) (crypted-twice key (header f) counter (payload f))
       ∙ sym (in-frame f j h)
 
-  kept : Keeps f list (openedOf g nwk app counter)
+  -- in the frame sealed anew
+  pub sealed-keeps : Keeps f list g
+  sealed-keeps = record { ahead = sealed-at f nwk app counter (a .data-frame) p same; others = stays }
+
+  -- and in the state that holds it
+  kept : Keeps f list (openedOf g nwk app counter .frame)
   kept =
       let d = a .data-frame in
       record {
-        ahead = λ i h.
-            held-byte i (omega (arith, placed f d .payload, placed f d .mic)) ∙ sealed-at f nwk app counter d p same i h;
+        ahead = λ i h. held-byte i (omega (arith, placed f d .payload, placed f d .mic)) ∙ sealed-keeps .ahead i h;
         others = λ j h u.
             held-byte (headerEnd f + j) (omega (arith, length-payload f, placed f d .payload, placed f d .mic)) ∙ stays j h u;
       }
 
 -- for every accepted opening and every list
 pub keeps : (f nwk app : List ℕ) (counter : ℕ) → openOf f nwk app counter .refusal .number ≡ 0 → (list : List Amendment)
-    → Keeps f list (amendedBy (openOf f nwk app counter .state) list)
+    → Keeps f list (amendedBy (openOf f nwk app counter .state) list .frame)
 keeps f nwk app counter e list =
-    subst (λ (s : Open). Keeps f list s) (sym (state-after f nwk app counter e list))
+    subst (λ (s : Open). Keeps f list (s .frame)) (sym (state-after f nwk app counter e list))
     (kept f nwk app counter (opens-accepted f nwk app counter e) list)

@@ -1,7 +1,7 @@
 -- The call on a lent frame, by demand 3: where nothing is refused, it leaves the frame's header and its payload with the
 -- whole list applied, encrypted and signed afresh; where anything is, the frame as it was.
 -- Assumes nothing.
-use mathlib.Core.Path.{_≡_, refl, sym, ap, _∙_}
+use mathlib.Core.Path.{_≡_, refl, sym, ap, _∙_, subst}
 use mathlib.Core.Bool.{Bool}
 use mathlib.Core.List.{List, [], _∷_}
 use Prim.Native.Nat.{ℕ, _/_, _%_}
@@ -19,7 +19,9 @@ use Rattle.frame.specs.declared.refusals.Refusal.{Refusal}
 use Rattle.amend.specs.Amending.{amendOf}
 use Rattle.amend.specs.OpenFrame.{openOf}
 use Rattle.amend.specs.AmendmentLists.{amendedBy, payloadBy, clearOf, decodedAll, amendAll, amendFrameOf, amendedFrame}
+use Rattle.amend.proofs.Accepted.{opens-accepted}
 use Rattle.amend.proofs.Demand3.{demand-3}
+use Rattle.theorems.proofs.demand_3.Kept.{Keeps, sealed-keeps}
 
 -- a test that two numbers decide
 passed : {A : Type 0} (x y : A) (n : ℕ) → n ≡ 0 → pick (eqb n 0) x y ≡ x
@@ -74,3 +76,9 @@ module _ (f nwk app : List ℕ) (counter : ℕ) (es : List ℕ) where
   pub refused-frame : (amendFrameOf f nwk app counter es .number ≡ 0 → ⊥) → amendedFrame f nwk app counter es ≡ f
   unfolding amendedFrame
   refused-frame n = failed (take (length f) (a .state .frame)) f (amendFrameOf f nwk app counter es .number) n
+
+  -- no other byte of the lent frame differs than those that the list names and the MIC
+  pub frame-keeps : amendFrameOf f nwk app counter es .number ≡ 0 → Keeps f (decodedAll es) (amendedFrame f nwk app counter es)
+  frame-keeps z =
+      subst (λ (g : List ℕ). Keeps f (decodedAll es) g) (sym (amended-frame z))
+      (sealed-keeps f nwk app counter (opens-accepted f nwk app counter (both z .0)) (decodedAll es))

@@ -74,6 +74,7 @@ use Rattle.frame_build.proofs.creator.join.build_join_request.Reads as frame-bu
 use Rattle.frame_build.proofs.creator.join.build_join_accept.Reads as frame-build-build-join-accept
 use Rattle.amend.proofs.opening.open_frame.Reads as amend-open-frame
 use Rattle.amend.proofs.amending.Open.amend.Reads as amend-open-amend
+use Rattle.amend.proofs.list.amend_list.Reads as amend-amend-list
 use Rattle.amend.proofs.list.amend_frame.Reads as amend-amend-frame
 use Rattle.show_text.proofs.describe.Reads as show-text-describe
 use Rattle.frame_c.proofs.opening.zinovoky_join_request_mic.Reads as c-join-request-mic
@@ -311,6 +312,9 @@ amend-open-frame-determined κs a x y s t p q = p ∙ sym q
 
 pub amend-open-amend-determined : Determined amend-open-amend.Learnt
 amend-open-amend-determined κs a x y s t p q = p ∙ sym q
+
+pub amend-amend-list-determined : Determined amend-amend-list.Learnt
+amend-amend-list-determined κs a x y s t p q = p ∙ sym q
 
 pub amend-amend-frame-determined : DeterminedLent (λ κs s. now (s .0)) amend-amend-frame.Learnt
 amend-amend-frame-determined κs a x y s t p q = (p .0 ∙ sym (q .0), p .1 ∙ sym (q .1))

@@ -18,13 +18,13 @@ returns c =
     (c .if1 .taken)
 
 -- the frame in the last state has 255 bytes
-held-long : (c : tie.After-amend-all) → length (c .amend-all .result .state .frame) ≡ 255
+held-long : (c : tie.After-amend-list) → length (c .amend-list .result .state .frame) ≡ 255
 held-long c = search needs
 
 -- and the lent one no more
-fits : (c : tie.After-amend-all)
+fits : (c : tie.After-amend-list)
     → length (c .before .before .before .before .before .before .before .before .before .args .frame .now)
-    ≤ length (c .amend-all .result .state .frame)
+    ≤ length (c .amend-list .result .state .frame)
 fits c =
     let tested = c .before .before in
     let opened = tested .before .before .before in
@@ -52,7 +52,7 @@ returns-2 c =
     let args = opened .before .before .before .before .args in
     let f = args .frame .now in
     let o = opened .open-frame in
-    let a = listed .amend-all in
+    let a = listed .amend-list in
     let held = a .result .state .frame in
     let law = whole-list f (args .nwk-skey) (args .app-skey) (args .counter) (args .amendments .now) (o .result) (o .ensures)
     (tested .if1 .left) (a .result) (a .ensures) (whole .if2 .taken) in (
@@ -67,7 +67,7 @@ returns-3 c =
     let opened = tested .before .before .before in
     let args = opened .before .before .before .before .args in
     let o = opened .open-frame in
-    let a = listed .amend-all in
+    let a = listed .amend-list in
     refused-list (args .frame .now) (args .nwk-skey) (args .app-skey) (args .counter) (args .amendments .now) (o .result) (o .ensures)
     (tested .if1 .left)
     (a .result)
