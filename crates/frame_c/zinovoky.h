@@ -33,11 +33,39 @@
 extern "C" {
 #endif
 
-/* Reads a frame. `fields` must have room for 12 bytes (7, after the reader's own refusals) and receives: the type (0 to
- * 5), FCtrl, FCnt low and high, the place past FOpts, whether a port is reported (0 or 1), the port, the payload's kind
- * (0 none, 1 data, 2 commands), the place of its first byte and the place past its last, the place of the MIC, and the
- * frame's length. Of a join message all but the type, the place of the MIC and the length are 0. */
-uint64_t zinovoky_read(const uint8_t *frame, size_t frame_len, uint8_t *fields, size_t fields_len);
+/* Reads a frame, and answers all of it in one number, whose fields the functions below take out. Bits:
+ *
+ *    0 to 7     the refusal, 0 where the frame is accepted
+ *    of a refused frame:
+ *    8 to 63    the place of the refusal
+ *    of an accepted one:
+ *    8 to 10    the type: 0 join-request, 1 join-accept, 2 to 5 data
+ *   11          whether a port is reported
+ *   12 and 13   the payload's kind: 0 none, 1 data, 2 commands
+ *   16 to 23    the port, 0 where none is reported
+ *   24 to 31    the place of the payload's first byte, which is that of the MIC where there is no payload
+ *   32 to 39    the place of the MIC, four bytes, where the payload ends
+ *   40 to 47    FCtrl; FOpts are so many bytes from place 8 on as its low nibble says
+ *   48 to 63    FCnt
+ *
+ * A join message has neither port nor payload, and 0 for FCtrl and FCnt. */
+uint64_t zinovoky_read(const uint8_t *frame, size_t frame_len);
+
+/* The number and the place of a refusal. */
+static inline uint8_t zinovoky_refusal(uint64_t reading) { return (uint8_t)reading; }
+static inline uint64_t zinovoky_refusal_place(uint64_t reading) { return reading >> 8; }
+
+/* The fields of a reading whose refusal is 0. */
+static inline uint8_t zinovoky_type(uint64_t reading) { return reading >> 8 & 7; }
+static inline uint8_t zinovoky_has_port(uint64_t reading) { return reading >> 11 & 1; }
+static inline uint8_t zinovoky_port(uint64_t reading) { return (uint8_t)(reading >> 16); }
+static inline uint8_t zinovoky_payload_kind(uint64_t reading) { return reading >> 12 & 3; }
+static inline size_t zinovoky_payload_at(uint64_t reading) { return reading >> 24 & 255; }
+static inline size_t zinovoky_payload_len(uint64_t reading) { return (reading >> 32 & 255) - (reading >> 24 & 255); }
+static inline size_t zinovoky_mic_at(uint64_t reading) { return reading >> 32 & 255; }
+static inline uint8_t zinovoky_fctrl(uint64_t reading) { return (uint8_t)(reading >> 40); }
+static inline size_t zinovoky_fopts_len(uint64_t reading) { return reading >> 40 & 15; }
+static inline uint16_t zinovoky_fcnt(uint64_t reading) { return (uint16_t)(reading >> 48); }
 
 /* Tests the MIC of a join-request, of a join-accept that is given clear, and of a data frame. `passes` becomes
  * 1 or 0; where the call answers a refusal it stays as it was. */

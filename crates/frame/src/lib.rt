@@ -3,6 +3,7 @@ pub mod fctrl;
 pub mod join_fields;
 pub mod keys;
 pub mod numbers;
+pub mod packed;
 pub mod packet_length;
 pub mod parser;
 pub mod refusals;

@@ -62,7 +62,7 @@ pub fn fhdr_length(fctrl: u8) -> usize
 }
 
 // FCnt of its two bytes, low byte first (4.3.1.5).
-fn read_fcnt(low: u8, high: u8) -> u16
+pub(crate) fn read_fcnt(low: u8, high: u8) -> u16
     ensures { λ r. ⌜ r ≡ low + high * 256 ⌝ }
 {
     (low as u16) + (high as u16) * 256

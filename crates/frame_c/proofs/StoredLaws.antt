@@ -1,14 +1,13 @@
 -- A call that stores its answer's bytes keeps its promise where it is refused and stores nothing, and where there is room
 -- and the bytes stand at the start of the output.
 -- Assumes nothing.
-use mathlib.Core.Path.{_≡_, refl, sym, ap, _∙_}
-use mathlib.Core.Bool.{Bool, true, false}
+use mathlib.Core.Path.{_≡_, sym, ap, _∙_}
+use mathlib.Core.Bool.{Bool}
 use mathlib.Core.List.{List, _++_}
 use Prim.Native.Nat.{ℕ, _<_, _≤_}
 use native.Mathlib.Omega.{arith}
 use lib.Dec.{eqb}
 use lib.ListN.{length, drop}
-use mir.Val.{boolByte}
 use borrow.Author.Tests.{lt-ltb, eq-eqb, ne-eqb}
 use Rattle.base.specs.Bytes.{pick}
 use Rattle.base.proofs.Cases.{by-order, by-equal}
@@ -48,8 +47,3 @@ stored m k {p} {x} {b} {s} {l} {e} {r} {j} u z w h a put =
       output =
           put-front put room ∙ ap (λ (t : List ℕ). t ++ drop (length t) l) h ∙ ap (λ (n : ℕ). outOf n b l) (sym none);
     }
-
--- a bool as a byte
-pub one-if : (b : Bool) → boolByte b ≡ pick b 1 0
-one-if true = refl
-one-if false = refl

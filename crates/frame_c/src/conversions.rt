@@ -3,5 +3,4 @@
 pub(crate) mod answers;
 pub(crate) mod building;
 pub(crate) mod opening;
-pub(crate) mod reading;
 pub(crate) mod storing;

@@ -51,8 +51,8 @@ fn row(what: &'static str, size: usize, port: Call, soft: Call, openssl: Call) -
 fn read_row(size: usize) -> Row {
     let port = with(frame(size), |frame| {
         let Ok(Reading::Data(data)) = read(frame) else { panic!("the bench reads good data frames") };
-        black_box((data.dev_addr, data.fctrl, data.fcnt, data.fopts));
-        black_box((data.port, data.kind.is_uplink(), data.kind.is_confirmed(), data.mic));
+        black_box((data.dev_addr(), data.fctrl(), data.fcnt(), data.fopts()));
+        black_box((data.port(), data.kind().is_uplink(), data.kind().is_confirmed(), data.mic()));
     });
     row("read", size, port, with(frame(size), reference::read::<Soft>), with(frame(size), reference::read::<OpenSsl>))
 }

@@ -43,20 +43,20 @@ fn place(frame: &[u8], part: &[u8]) -> [u8; 2] {
 }
 
 fn data_read(frame: &[u8], data: &DataFields) -> Vec<u8> {
-    let mut out = vec![0, data.kind as u8];
-    out.extend(data.dev_addr);
-    out.push(data.fctrl);
+    let mut out = vec![0, data.kind() as u8];
+    out.extend(data.dev_addr());
+    out.push(data.fctrl());
     out.extend([data.adr(), data.adr_ack_req(), data.ack(), data.f_pending()].map(u8::from));
-    out.extend(data.fcnt.to_le_bytes());
-    out.extend(place(frame, data.fopts));
-    out.extend(data.port.map_or([0, 0], |port| [1, port]));
-    let (kind, [from, to]) = match data.payload {
+    out.extend(data.fcnt().to_le_bytes());
+    out.extend(place(frame, data.fopts()));
+    out.extend(data.port().map_or([0, 0], |port| [1, port]));
+    let (kind, [from, to]) = match data.payload() {
         Payload::None => (0, [0, 0]),
         Payload::Data(part) => (1, place(frame, part)),
         Payload::Commands(part) => (2, place(frame, part)),
     };
     out.extend([kind, from, to]);
-    out.extend(data.mic);
+    out.extend(data.mic());
     out
 }
 

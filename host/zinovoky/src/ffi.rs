@@ -3,11 +3,12 @@
 //! What makes them safe is the same everywhere: a slice goes over as its own pointer and length, a fixed array as a
 //! pointer to as many bytes as the header asks for, and the borrow checker keeps what is written apart from the rest.
 
+use crate::packed::Packed;
 use crate::{Refusal, Result};
 
 mod c {
     extern "C" {
-        pub fn zinovoky_read(frame: *const u8, frame_len: usize, fields: *mut u8, fields_len: usize) -> u64;
+        pub fn zinovoky_read(frame: *const u8, frame_len: usize) -> u64;
         pub fn zinovoky_join_request_mic(frame: *const u8, len: usize, app_key: *const u8, passes: *mut u8) -> u64;
         pub fn zinovoky_join_accept_mic(frame: *const u8, len: usize, app_key: *const u8, passes: *mut u8) -> u64;
         pub fn zinovoky_data_mic(frame: *const u8, len: usize, key: *const u8, counter: u32, passes: *mut u8) -> u64;
@@ -83,22 +84,25 @@ mod c {
 
 type Key = [u8; 16];
 
-/// The low byte is the refusal's number or 0; above it stands what was built, as a length.
+/// The low byte is the refusal's number or 0; above it stands what was built, as a length, or what was read.
 #[inline]
-fn answered(answer: u64) -> Result<usize> {
+fn answered(answer: u64) -> Result<u64> {
     match answer as u8 {
-        0 => Ok((answer >> 8) as usize),
+        0 => Ok(answer),
         number => Err(Refusal::from_number(number).unwrap_or(Refusal::InvalidData)),
     }
 }
 
-/// What `read` writes, in the header's order.
+/// The length of what was built.
 #[inline]
-pub fn read(frame: &[u8]) -> Result<[u8; 12]> {
-    let mut fields = [0; 12];
-    // SAFETY: see the head of the file; `fields` has the room that is asked for.
-    answered(unsafe { c::zinovoky_read(frame.as_ptr(), frame.len(), fields.as_mut_ptr(), fields.len()) })?;
-    Ok(fields)
+fn built(answer: u64) -> Result<usize> {
+    Ok((answered(answer)? >> 8) as usize)
+}
+
+#[inline]
+pub fn read(frame: &[u8]) -> Result<Packed> {
+    // SAFETY: see the head of the file.
+    answered(unsafe { c::zinovoky_read(frame.as_ptr(), frame.len()) }).map(Packed)
 }
 
 #[inline]
@@ -181,7 +185,7 @@ pub fn session_keys(frame: &[u8], dev_nonce: &[u8; 2], app_key: &Key) -> Result<
 #[inline]
 pub fn build_join_request(call: &crate::JoinRequest, app_key: &Key, out: &mut [u8]) -> Result<usize> {
     // SAFETY: see the head of the file; the EUIs have 8 bytes, the nonce 2.
-    answered(unsafe {
+    built(unsafe {
         c::zinovoky_build_join_request(
             call.app_eui.as_ptr(),
             call.dev_eui.as_ptr(),
@@ -198,7 +202,7 @@ pub fn build_join_request(call: &crate::JoinRequest, app_key: &Key, out: &mut [u
 pub fn build_join_accept(fixed: &[u8; 12], channels: Option<&[u32]>, app_key: &Key, out: &mut [u8]) -> Result<usize> {
     let list = channels.unwrap_or(&[]);
     // SAFETY: see the head of the file.
-    answered(unsafe {
+    built(unsafe {
         c::zinovoky_build_join_accept(
             fixed.as_ptr(),
             channels.is_some().into(),
@@ -216,7 +220,7 @@ pub fn build_data(call: &crate::Data, nwk_skey: &Key, app_skey: &Key, out: &mut 
     /// Any number above 255 says that there is no port.
     const NO_PORT: u16 = 256;
     // SAFETY: see the head of the file; the address has 4 bytes.
-    answered(unsafe {
+    built(unsafe {
         c::zinovoky_build_data(
             call.kind as u8,
             call.dev_addr.as_ptr(),

@@ -22,8 +22,8 @@
 //!
 //! decrypt_data_checked(frame.as_mut_bytes(), &nwk_skey, Some(&app_skey), 76543)?;
 //! let Reading::Data(data) = read(&frame)? else { return Err(Refusal::InvalidData) };
-//! assert_eq!(data.port, Some(42));
-//! assert_eq!(data.payload, Payload::Data(b"hello lora"));
+//! assert_eq!(data.port(), Some(42));
+//! assert_eq!(data.payload(), Payload::Data(b"hello lora"));
 //! # Ok::<(), Refusal>(())
 //! ```
 #![deny(unsafe_code)]
@@ -34,6 +34,7 @@ mod building;
 mod ffi;
 mod keys;
 mod opening;
+mod packed;
 mod reading;
 mod refusal;
 

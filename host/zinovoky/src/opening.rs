@@ -44,7 +44,7 @@ pub fn data_mic(frame: &[u8], nwk_skey: &NwkSKey, counter: u32) -> Result<bool> 
 /// assert_eq!(decrypt_data(&mut frame, None, None, 1), Err(Refusal::InvalidKey));
 /// decrypt_data(&mut frame, None, Some(&AppSKey([1; 16])), 1)?;
 /// let Reading::Data(data) = read(&frame)? else { panic!("another type") };
-/// assert_eq!(data.payload, Payload::Data(b"hello"));
+/// assert_eq!(data.payload(), Payload::Data(b"hello"));
 /// # Ok::<(), Refusal>(())
 /// ```
 #[inline]

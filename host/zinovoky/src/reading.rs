@@ -1,6 +1,7 @@
 //! Reading a frame, and what is found in it.
 
-use crate::{ffi, Result};
+use crate::packed::Packed;
+use crate::{ffi, Refusal, Result};
 
 /// The four types of a data frame.
 #[derive(Clone, Copy, Debug, PartialEq, Eq, Hash)]
@@ -60,39 +61,96 @@ pub enum Payload<'a> {
     Commands(&'a [u8]),
 }
 
-/// The parts of a data frame.
+/// A data frame: each field is taken when it is asked for.
 #[derive(Clone, Copy, Debug, PartialEq, Eq)]
 pub struct DataFields<'a> {
-    pub kind: DataKind,
-    /// In frame order: low byte first.
-    pub dev_addr: &'a [u8],
-    pub fctrl: u8,
-    /// The low half of the counter.
-    pub fcnt: u16,
-    pub fopts: &'a [u8],
-    /// Absent too where a port is followed by no payload.
-    pub port: Option<u8>,
-    pub payload: Payload<'a>,
-    pub mic: &'a [u8],
+    /// Byte 0, address, FCtrl and FCnt.
+    fixed: &'a [u8; 8],
+    /// All but the MIC.
+    body: &'a [u8],
+    mic: &'a [u8],
+    kind: DataKind,
+    packed: Packed,
 }
 
-impl DataFields<'_> {
+impl<'a> DataFields<'a> {
+    /// None where the frame has fewer bytes than the reader accepts.
+    #[inline]
+    fn new(frame: &'a [u8], kind: DataKind, packed: Packed) -> Option<Self> {
+        let (body, mic) = frame.split_last_chunk::<4>()?;
+        Some(DataFields { fixed: body.first_chunk()?, body, mic, kind, packed })
+    }
+
+    #[inline]
+    pub const fn kind(&self) -> DataKind {
+        self.kind
+    }
+
+    /// In frame order: low byte first.
+    #[inline]
+    pub fn dev_addr(&self) -> &'a [u8] {
+        &self.fixed[1..5]
+    }
+
+    #[inline]
+    pub const fn fctrl(&self) -> u8 {
+        self.packed.fctrl()
+    }
+
+    /// The low half of the counter.
+    #[inline]
+    pub const fn fcnt(&self) -> u16 {
+        self.packed.fcnt()
+    }
+
+    #[inline]
+    pub fn fopts(&self) -> &'a [u8] {
+        let rest = &self.body[self.fixed.len()..];
+        &rest[..self.packed.fopts_len().min(rest.len())]
+    }
+
+    /// Absent too where a port is followed by no payload.
+    #[inline]
+    pub fn port(&self) -> Option<u8> {
+        self.packed.has_port().then_some(self.packed.port())
+    }
+
+    /// The payload, enciphered if the frame is.
+    #[inline]
+    pub fn payload(&self) -> Payload<'a> {
+        let bytes = &self.body[self.packed.payload_at().min(self.body.len())..];
+        match self.packed.payload_kind() {
+            0 => Payload::None,
+            1 => Payload::Data(bytes),
+            _ => Payload::Commands(bytes),
+        }
+    }
+
+    #[inline]
+    pub const fn mic(&self) -> &'a [u8] {
+        self.mic
+    }
+
+    #[inline]
     pub const fn adr(&self) -> bool {
-        self.fctrl & 0x80 != 0
+        self.fctrl() & 0x80 != 0
     }
 
     /// Reported only on uplinks.
+    #[inline]
     pub const fn adr_ack_req(&self) -> bool {
-        self.kind.is_uplink() && self.fctrl & 0x40 != 0
+        self.kind.is_uplink() && self.fctrl() & 0x40 != 0
     }
 
+    #[inline]
     pub const fn ack(&self) -> bool {
-        self.fctrl & 0x20 != 0
+        self.fctrl() & 0x20 != 0
     }
 
     /// Reported only on downlinks.
+    #[inline]
     pub const fn f_pending(&self) -> bool {
-        !self.kind.is_uplink() && self.fctrl & 0x10 != 0
+        !self.kind.is_uplink() && self.fctrl() & 0x10 != 0
     }
 }
 
@@ -110,12 +168,12 @@ pub(crate) fn part(frame: &[u8], from: usize, to: usize) -> &[u8] {
 /// use zinovoky::{read, DataKind, Payload, Reading, Refusal};
 /// let frame = [0x40, 4, 3, 2, 1, 0x80, 5, 0, 0, 0xaa, 0x11, 0x22, 0x33, 0x44];
 /// let Reading::Data(data) = read(&frame)? else { panic!("another type") };
-/// assert_eq!(data.kind, DataKind::UnconfirmedUp);
-/// assert_eq!(data.dev_addr, [4, 3, 2, 1]);
+/// assert_eq!(data.kind(), DataKind::UnconfirmedUp);
+/// assert_eq!(data.dev_addr(), [4, 3, 2, 1]);
 /// assert!(data.adr());
-/// assert_eq!((data.fcnt, data.port), (5, Some(0)));
-/// assert_eq!(data.payload, Payload::Commands(&[0xaa]));
-/// assert_eq!(data.mic, [0x11, 0x22, 0x33, 0x44]);
+/// assert_eq!((data.fcnt(), data.port()), (5, Some(0)));
+/// assert_eq!(data.payload(), Payload::Commands(&[0xaa]));
+/// assert_eq!(data.mic(), [0x11, 0x22, 0x33, 0x44]);
 ///
 /// assert_eq!(read(&[]), Err(Refusal::InvalidPayload));
 /// assert_eq!(read(&[0x40; 256]), Err(Refusal::FrameTooLong));
@@ -123,33 +181,17 @@ pub(crate) fn part(frame: &[u8], from: usize, to: usize) -> &[u8] {
 /// ```
 #[inline]
 pub fn read(frame: &[u8]) -> Result<Reading<'_>> {
-    let fields = ffi::read(frame)?;
-    let [number, fctrl, low, high, fopts_end, has_port, port, payload, from, to, mic, length] = fields;
-    let [fopts_end, from, to, mic, length] = [fopts_end, from, to, mic, length].map(usize::from);
-    let mic = part(frame, mic, length);
-    let Some(kind) = DataKind::of(number) else {
-        return Ok(match number {
+    let packed = ffi::read(frame)?;
+    let Some(kind) = DataKind::of(packed.kind()) else {
+        return Ok(match packed.kind() {
             0 => Reading::JoinRequest(JoinRequestFields {
                 app_eui: part(frame, 1, 9),
                 dev_eui: part(frame, 9, 17),
                 dev_nonce: part(frame, 17, 19),
-                mic,
+                mic: part(frame, packed.mic_at(), frame.len()),
             }),
-            _ => Reading::JoinAccept { length },
+            _ => Reading::JoinAccept { length: frame.len() },
         });
     };
-    Ok(Reading::Data(DataFields {
-        kind,
-        dev_addr: part(frame, 1, 5),
-        fctrl,
-        fcnt: u16::from_le_bytes([low, high]),
-        fopts: part(frame, 8, fopts_end),
-        port: (has_port == 1).then_some(port),
-        payload: match payload {
-            0 => Payload::None,
-            1 => Payload::Data(part(frame, from, to)),
-            _ => Payload::Commands(part(frame, from, to)),
-        },
-        mic,
-    }))
+    DataFields::new(frame, kind, packed).map(Reading::Data).ok_or(Refusal::InvalidData)
 }

@@ -36,14 +36,14 @@ fn refused() {
 fn accepted() {
     for first in [0x40, 0x5c] {
         let bare = frame(first, 12, &[]); // P3, P13
-        assert_eq!((data(&bare).port, data(&bare).payload), (None, Payload::None));
+        assert_eq!((data(&bare).port(), data(&bare).payload()), (None, Payload::None));
     }
     let fopts = frame(0x40, 13, &[(5, 1), (8, 9)]); // P5
-    assert_eq!((data(&fopts).fopts, data(&fopts).payload), (&[9][..], Payload::None));
+    assert_eq!((data(&fopts).fopts(), data(&fopts).payload()), (&[9][..], Payload::None));
     let empty = frame(0x40, 13, &[]); // P6
-    assert_eq!((data(&empty).port, data(&empty).payload), (None, Payload::Data(&[])));
+    assert_eq!((data(&empty).port(), data(&empty).payload()), (None, Payload::Data(&[])));
     let commands = frame(0x40, 14, &[(9, 7)]); // P7
-    assert_eq!((data(&commands).port, data(&commands).payload), (Some(0), Payload::Commands(&[7])));
+    assert_eq!((data(&commands).port(), data(&commands).payload()), (Some(0), Payload::Commands(&[7])));
 }
 
 const KEYS: (NwkSKey, AppSKey) = (NwkSKey([2; 16]), AppSKey([1; 16]));
@@ -62,7 +62,7 @@ fn counter() {
     };
     let mut frame = fields.build(&KEYS.0, &KEYS.1).unwrap();
     decrypt_data(frame.as_mut_bytes(), None, Some(&KEYS.1), 0x0001_ffff).unwrap();
-    assert_eq!(data(&frame).payload, Payload::Data(b"counted"));
+    assert_eq!(data(&frame).payload(), Payload::Data(b"counted"));
 }
 
 #[test]

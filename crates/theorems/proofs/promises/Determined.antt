@@ -45,6 +45,7 @@ use Rattle.frame.proofs.parser.fhdr_length.Reads as frame-fhdr-length
 use Rattle.frame.proofs.parser.read.Reads as frame-read
 use Rattle.frame.proofs.numbers.other_refusal.Reads as frame-other-refusal
 use Rattle.frame.proofs.numbers.values_of.Reads as frame-values-of
+use Rattle.frame.proofs.packed.read_packed.Reads as frame-read-packed
 use Rattle.frame.proofs.join_fields.join_request_fields.Reads as frame-join-request-fields
 use Rattle.frame.proofs.join_fields.join_accept_fields.Reads as frame-join-accept-fields
 use Rattle.frame_security.proofs.mic.mic_of.Reads as frame-security-mic-of
@@ -218,6 +219,9 @@ frame-other-refusal-determined κs a x y s t p q = p ∙ sym q
 pub frame-values-of-determined : Determined frame-values-of.Learnt
 frame-values-of-determined κs a x y s t p q = p ∙ sym q
 
+pub frame-read-packed-determined : Determined frame-read-packed.Learnt
+frame-read-packed-determined κs a x y s t p q = p ∙ sym q
+
 pub frame-join-request-fields-determined : Determined frame-join-request-fields.Learnt
 frame-join-request-fields-determined κs a x y s t p q = p ∙ sym q
 
@@ -350,8 +354,8 @@ c-decrypt-join-accept-checked-determined κs a x y s t p q = (p .0 ∙ sym (q .0
 pub c-session-keys-determined : DeterminedLent (λ κs s. now (s .1 .1 .1 .0)) c-session-keys.Learnt
 c-session-keys-determined κs a x y s t p q = (p .answer ∙ sym (q .answer), p .output ∙ sym (q .output))
 
-pub c-read-determined : DeterminedLent (λ κs s. now (s .1 .0)) c-read.Learnt
-c-read-determined κs a x y s t p q = (p .answer ∙ sym (q .answer), p .output ∙ sym (q .output))
+pub c-read-determined : Determined c-read.Learnt
+c-read-determined κs a x y s t p q = p ∙ sym q
 
 pub c-build-join-request-determined : DeterminedLent (λ κs s. now (s .1 .1 .1 .1 .0)) c-build-join-request.Learnt
 c-build-join-request-determined κs a x y s t p q = (p .answer ∙ sym (q .answer), p .output ∙ sym (q .output))

@@ -1,0 +1,139 @@
+// A reading as one number of 64 bits. A data frame is read straight into it; what is none, `read` answers.
+ghost use mathlib.Core.Path.{_≡_};
+ghost use Prim.Native.Nat.{_+_, _*_, _/_, _%_, _≤_, _<_};
+ghost use lib.ListN.{length};
+ghost use Rattle.frame.specs.Conditions.{IsData};
+ghost use Rattle.frame.specs.Layout.{fhdrLength};
+ghost use Rattle.frame.specs.Reading.{readOf};
+ghost use Rattle.frame.specs.PackedReading.{packed, bitsOfJoin, packedOf, portBits};
+ghost use Rattle.frame.specs.declared.parser.Reading.the-variants.{Refused};
+use crate::packet_length::FCNT_AT;
+use crate::packet_length::FCTRL_AT;
+use crate::packet_length::JOIN_REQUEST_LEN;
+use crate::packet_length::MIC_LEN;
+use crate::packet_length::PHY_PAYLOAD_MAX_LEN;
+use crate::packet_length::PHY_PAYLOAD_MIN_LEN;
+use crate::parser::Reading;
+use crate::parser::fhdr_length;
+use crate::parser::read;
+use crate::parser::read_fcnt;
+use crate::refusals::Refusal;
+
+// A refusal: its number, and above it the place.
+fn refused_bits(refusal: Refusal) -> u64
+    ensures { λ r. ⌜ r ≡ packedOf (Refused refusal) ⌝ }
+{
+    (refusal.number as u64) + (refusal.place as u64) % 72057594037927936 * 256
+}
+
+// A join message: its type, and the place of its MIC, which stands for that of the payload too.
+fn join_bits(mtype: u8, n: usize) -> u64
+    requires { ⌜ mtype < 8 ⌝ }
+    requires { ⌜ 4 ≤ n ⌝ }
+    requires { ⌜ n < 256 ⌝ }
+    ensures { λ r. ⌜ r ≡ packed (bitsOfJoin mtype n) ⌝ }
+{
+    (mtype as u64) * 256 + ((n - MIC_LEN) as u64) * 4311744512
+}
+
+// What is no data frame, by the reader's answer.
+fn other_bits(frame: &[u8]) -> u64
+    requires { ⌜ (IsData (now frame) → ⊥) ⌝ }
+    ensures { λ r. ⌜ r ≡ packedOf (readOf (now (frame .entry))) ⌝ }
+{
+    let reading = read(frame);
+    match reading {
+        Reading::JoinRequest => join_bits(0, JOIN_REQUEST_LEN),
+        Reading::JoinAccept(n) => join_bits(1, n),
+        Reading::Data(_) => 0,
+        Reading::Refused(refusal) => refused_bits(refusal),
+    }
+}
+
+// Types 2 to 5, those of data, become 0 to 3; the others lie above.
+fn past_data(first: u8) -> u8
+    ensures { λ r. ⌜ r ≡ (first / 32 + 6) % 8 ⌝ }
+    ensures { λ _. ⌜ first < 256 ⌝ }
+{
+    (first / 32 + 6) % 8
+}
+
+fn wide(b: u8) -> u64
+    ensures { λ r. ⌜ r ≡ b ⌝ }
+    ensures { λ r. ⌜ r < 256 ⌝ }
+{
+    b as u64
+}
+
+// Whether there is a port, the kind of the payload, the port, and how many bytes lie between FOpts and payload.
+fn port_bits(frame: &[u8], h: usize) -> u64
+    requires { ⌜ h ≡ fhdrLength (now frame) ⌝ }
+    requires { ⌜ 5 + h ≤ length (now frame) ⌝ }
+    ensures { λ r. ⌜ r ≡ portBits (now (frame .entry)) ⌝ }
+    ensures { λ r. ⌜ r < 67108864 ⌝ }
+{
+    let n = frame.len();
+    if h + 6 < n {
+        let port = frame[1 + h];
+        if port == 0 {
+            return 16787456;
+        }
+        return wide(port) * 65536 + 16783360;
+    }
+    if n < h + 6 {
+        return 0;
+    }
+    16781312
+}
+
+// FCtrl and FCnt at their bits.
+fn counter_bits(fctrl: u8, fcnt: u16) -> u64
+    ensures { λ r. ⌜ r ≡ fctrl * 1099511627776 + fcnt * 281474976710656 ⌝ }
+{
+    (fctrl as u64) * 1099511627776 + (fcnt as u64) * 281474976710656
+}
+
+// The type, the places past FOpts and of the MIC, and what counter_bits and port_bits give.
+fn data_bits(mtype: u8, fopts_end: usize, mic: usize, counter: u64, port: u64) -> u64
+    requires { ⌜ mtype < 8 ⌝ }
+    requires { ⌜ «fopts_end» < 64 ⌝ }
+    requires { ⌜ mic < 255 ⌝ }
+    requires { ⌜ counter ≤ 18446742974197923840 ⌝ }
+    requires { ⌜ port < 67108864 ⌝ }
+    ensures { λ r. ⌜ r ≡ mtype * 256 + «fopts_end» * 16777216 + mic * 4294967296 + counter + port ⌝ }
+{
+    (mtype as u64) * 256
+        + (fopts_end as u64) * 16777216
+        + (mic as u64) * 4294967296
+        + counter
+        + port
+}
+
+// Reading a frame, as one number.
+pub fn read_packed(frame: &[u8]) -> u64
+    ensures { λ r. ⌜ r ≡ packedOf (readOf (now (frame .entry))) ⌝ }
+{
+    let n = frame.len();
+    if PHY_PAYLOAD_MAX_LEN < n {
+        return other_bits(frame);
+    }
+    if n < PHY_PAYLOAD_MIN_LEN {
+        return other_bits(frame);
+    }
+    let first = frame[0];
+    if first % 4 != 0 {
+        return other_bits(frame);
+    }
+    if 3 < past_data(first) {
+        return other_bits(frame);
+    }
+    let fctrl = frame[FCTRL_AT];
+    let h = fhdr_length(fctrl);
+    if n < 5 + h {
+        return other_bits(frame);
+    }
+    let port = port_bits(frame, h);
+    let fcnt = read_fcnt(frame[FCNT_AT], frame[FCNT_AT + 1]);
+    let counter = counter_bits(fctrl, fcnt);
+    data_bits(first / 32, h + 1, n - MIC_LEN, counter, port)
+}
