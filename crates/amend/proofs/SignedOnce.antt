@@ -112,10 +112,10 @@ module _ (s : Open) (es : List ℕ) where
   unfolding amendListOf
   list-outside h = simp h
 
-pub by-none : (s : Open) (es : List ℕ) → length es ≡ 0 → amendedBy s (decodedAll es) ≡ s
-unfolding amendedBy decodedAll
-by-none s [] e = refl
-by-none s (x ∷ es) e = let none : ⊥ = omega arith in absurd none
+pub list-none : (s : Open) (es : List ℕ) → length es ≡ 0 → amendListOf s es ≡ record { refusal = notRefused; state = s }
+unfolding amendListOf allInside amendedBy decodedAll
+list-none s [] e = refl
+list-none s (x ∷ es) e = let none : ⊥ = omega arith in absurd none
 
 -- ---- against one amendment after the other, up to the first refusal
 

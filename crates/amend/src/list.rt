@@ -3,7 +3,7 @@
 // after any list (demand 3) is proved here, in proofs/Demand3.antt.
 ghost use mathlib.Core.Path.{_≡_};
 ghost use mathlib.Core.Bool.{true};
-ghost use Prim.Native.Nat.{_-_, _≤_};
+ghost use Prim.Native.Nat.{_-_, _≤_, _<_};
 ghost use lib.ListN.{length};
 ghost use Rattle.frame_security.specs.Security.{payloadKey};
 ghost use Rattle.amend.specs.Amending.{payloadLength};
@@ -119,12 +119,9 @@ fn store_all(
 
 // Every payload byte that a list names set, in order, and the frame signed anew once.
 fn amended_list(state: Open, amendments: &[u32]) -> Open
-    requires { ⌜ allInside (payloadLength state) (now amendments) ≡ true ⌝ }
+    requires { ⌜ (allInside (payloadLength state) (now amendments) ≡ true) × (0 < length (now amendments)) ⌝ }
     ensures { λ r. ⌜ r ≡ amendedBy state (decodedAll (now (amendments .entry))) ⌝ }
 {
-    if amendments.len() == 0 {
-        return state;
-    }
     let mut frame = state.frame;
     let mut chains = state.chains;
     let nwk = state.nwk_schedule;
@@ -152,6 +149,15 @@ fn amended_list(state: Open, amendments: &[u32]) -> Open
 pub fn amend_list(state: Open, amendments: &[u32]) -> Amended
     ensures { λ r. ⌜ r ≡ amendListOf state (now (amendments .entry)) ⌝ }
 {
+    if amendments.len() == 0 {
+        return Amended {
+            refusal: Refusal {
+                number: 0,
+                place: 0,
+            },
+            state,
+        };
+    }
     let count = payload_length(state.frame[FCTRL_AT], state.length);
     if all_inside(amendments, count) {
         let after = amended_list(state, amendments);

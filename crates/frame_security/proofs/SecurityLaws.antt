@@ -12,6 +12,7 @@ use lib.Dec.{eqb}
 use borrow.Author.Tests.{le-leb, lt-leb, ne-eqb}
 use Rattle.base.specs.Bytes.{pick, at, part, _⊕_, AreBytes}
 use Rattle.base.specs.Mask.{masked}
+use Rattle.base.proofs.Cases.{by-order}
 use Rattle.base.proofs.Mask.{masked-long, masked-at, masked-same, masked-twice, masked-set}
 use Rattle.base.proofs.Lent.{part-long, same-start, put-back, put-before, put-part, put-after, put-same}
 use Rattle.aes.specs.KeyExpansion.{keyExpansion}
@@ -143,6 +144,14 @@ unfolding cryptedPart
 cryptedPart-long key f counter start end h inside =
     simp (length-append, crypted-long, length-take, length-drop) (omega arith)
 
+-- a part of no byte
+cryptedPart-nothing : (key f : List ℕ) (counter start end : ℕ) → start ≡ end → cryptedPart key f counter start end ≡ f
+unfolding cryptedPart
+cryptedPart-nothing key f counter start end e =
+    let none : length (part start (end - start) f) ≡ 0 = length-take (end - start) (drop start f) ∙ omega arith in
+    ap (λ (l : List ℕ). take start f ++ l ++ drop end f) (sym (crypted-none key f counter (part start (end - start) f) none))
+    ∙ put-same start end f (omega arith)
+
 -- decrypting a part that lies past the first five bytes gives the frame back
 pub cryptedPart-twice : (key f : List ℕ) (counter start end : ℕ) → 5 ≤ start → start ≤ end → end ≤ length f
     → cryptedPart key (cryptedPart key f counter start end) counter start end ≡ f
@@ -176,9 +185,17 @@ pub crypted-inside : (key f : List ℕ) (counter start end : ℕ) → start ≤ 
 unfolding cryptedIn
 crypted-inside key f counter start end h inside = simp (le-leb start end h, le-leb end (length f) inside)
 
-pub crypted-unordered : (key f : List ℕ) (counter start end : ℕ) → end < start → f ≡ cryptedIn key f counter start end
+-- where there is nothing between them, or they lie the other way round
+pub crypted-nothing : (key f : List ℕ) (counter start end : ℕ) → end ≤ start → f ≡ cryptedIn key f counter start end
 unfolding cryptedIn
-crypted-unordered key f counter start end h = simp (lt-leb start end h)
+crypted-nothing key f counter start end h =
+    by-order start end
+    (λ l.
+    let same : start ≡ end = omega arith in
+    by-order end (length f)
+    (λ m. simp (le-leb start end l, le-leb end (length f) m) (sym (cryptedPart-nothing key f counter start end same)))
+    (λ m. simp (le-leb start end l, lt-leb end (length f) m)))
+    (λ l. simp (lt-leb start end l))
 
 pub crypted-outside : (key f : List ℕ) (counter start end : ℕ) → start ≤ end → length f < end
     → f ≡ cryptedIn key f counter start end

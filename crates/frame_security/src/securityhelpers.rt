@@ -120,11 +120,12 @@ fn crypt_inside(key: [u8; 16], frame: &mut [u8], counter: u32, start: usize, end
     encrypt_frm_data_payload(key, first, counter, &mut frame[start..end]);
 }
 
-// The same of the bytes start..end of a frame. Nothing is written where these do not lie in order within it.
+// The same of the bytes start..end of a frame. Nothing is written where there are none, or where these do not lie in order
+// within it.
 pub fn encrypt_part(key: [u8; 16], frame: &mut [u8], counter: u32, start: usize, end: usize)
     ensures { λ _. ⌜ now (frame .exit) ≡ cryptedIn key (now (frame .entry)) counter start end ⌝ }
 {
-    if end < start {
+    if end <= start {
         return;
     }
     if frame.len() < end {
