@@ -67,6 +67,15 @@ static inline uint8_t zinovoky_fctrl(uint64_t reading) { return (uint8_t)(readin
 static inline size_t zinovoky_fopts_len(uint64_t reading) { return reading >> 40 & 15; }
 static inline uint16_t zinovoky_fcnt(uint64_t reading) { return (uint16_t)(reading >> 48); }
 
+/* The fields of a join-request: AppEUI (8 bytes), DevEUI (8), DevNonce (2) and MIC (4) in frame order, 22 bytes into `fields`
+ * (7, after the reader's own refusals and 4 for a frame of another type, where there is no room for them). */
+uint64_t zinovoky_join_request_fields(const uint8_t *frame, size_t frame_len, uint8_t *fields, size_t fields_len);
+
+/* The fields of a clear join-accept, 42 bytes into `fields` (7, as above): AppNonce (3), NetID (3) and DevAddr (4) in frame
+ * order, DLSettings, RxDelay (0 to 15), the list that it holds (0 none, 1 frequencies, 2 masks), nine masks, and five
+ * frequencies in units of 100 Hz, of four bytes each, low byte first. A list that it does not hold is zeros. */
+uint64_t zinovoky_join_accept_fields(const uint8_t *frame, size_t frame_len, uint8_t *fields, size_t fields_len);
+
 /* Tests the MIC of a join-request, of a join-accept that is given clear, and of a data frame. `passes` becomes
  * 1 or 0; where the call answers a refusal it stays as it was. */
 uint64_t zinovoky_join_request_mic(const uint8_t *frame, size_t frame_len, const uint8_t *app_key, uint8_t *passes);

@@ -19,11 +19,40 @@ use crate::parser::read;
 use crate::parser::read_fcnt;
 use crate::refusals::Refusal;
 
+// One in each field, by the bit that it begins at.
+const PLACE: u64 = 256;
+
+const TYPE: u64 = 256;
+
+const PORT_GIVEN: u64 = 2048;
+
+const PAYLOAD_KIND: u64 = 4096;
+
+const PORT: u64 = 65536;
+
+const PAYLOAD_AT: u64 = 16777216;
+
+const MIC_AT: u64 = 4294967296;
+
+const FCTRL: u64 = 1099511627776;
+
+const FCNT: u64 = 281474976710656;
+
+// So far a place counts: 56 bits.
+const PLACES: u64 = 72057594037927936;
+
+// Where a port byte is there: nothing behind it, data, or commands. The payload begins a byte after FOpts.
+const EMPTY: u64 = PAYLOAD_KIND + PAYLOAD_AT;
+
+const DATA: u64 = PORT_GIVEN + PAYLOAD_KIND + PAYLOAD_AT;
+
+const COMMANDS: u64 = PORT_GIVEN + 2 * PAYLOAD_KIND + PAYLOAD_AT;
+
 // A refusal: its number, and above it the place.
 fn refused_bits(refusal: Refusal) -> u64
     ensures { λ r. ⌜ r ≡ packedOf (Refused refusal) ⌝ }
 {
-    (refusal.number as u64) + (refusal.place as u64) % 72057594037927936 * 256
+    (refusal.number as u64) + (refusal.place as u64) % PLACES * PLACE
 }
 
 // A join message: its type, and the place of its MIC, which stands for that of the payload too.
@@ -33,7 +62,7 @@ fn join_bits(mtype: u8, n: usize) -> u64
     requires { ⌜ n < 256 ⌝ }
     ensures { λ r. ⌜ r ≡ packed (bitsOfJoin mtype n) ⌝ }
 {
-    (mtype as u64) * 256 + ((n - MIC_LEN) as u64) * 4311744512
+    (mtype as u64) * TYPE + ((n - MIC_LEN) as u64) * (PAYLOAD_AT + MIC_AT)
 }
 
 // What is no data frame, by the reader's answer.
@@ -76,21 +105,21 @@ fn port_bits(frame: &[u8], h: usize) -> u64
     if h + 6 < n {
         let port = frame[1 + h];
         if port == 0 {
-            return 16787456;
+            return COMMANDS;
         }
-        return wide(port) * 65536 + 16783360;
+        return wide(port) * PORT + DATA;
     }
     if n < h + 6 {
         return 0;
     }
-    16781312
+    EMPTY
 }
 
 // FCtrl and FCnt at their bits.
 fn counter_bits(fctrl: u8, fcnt: u16) -> u64
     ensures { λ r. ⌜ r ≡ fctrl * 1099511627776 + fcnt * 281474976710656 ⌝ }
 {
-    (fctrl as u64) * 1099511627776 + (fcnt as u64) * 281474976710656
+    (fctrl as u64) * FCTRL + (fcnt as u64) * FCNT
 }
 
 // The type, the places past FOpts and of the MIC, and what counter_bits and port_bits give.
@@ -102,11 +131,7 @@ fn data_bits(mtype: u8, fopts_end: usize, mic: usize, counter: u64, port: u64) -
     requires { ⌜ port < 67108864 ⌝ }
     ensures { λ r. ⌜ r ≡ mtype * 256 + «fopts_end» * 16777216 + mic * 4294967296 + counter + port ⌝ }
 {
-    (mtype as u64) * 256
-        + (fopts_end as u64) * 16777216
-        + (mic as u64) * 4294967296
-        + counter
-        + port
+    (mtype as u64) * TYPE + (fopts_end as u64) * PAYLOAD_AT + (mic as u64) * MIC_AT + counter + port
 }
 
 // Reading a frame, as one number.

@@ -1,12 +1,57 @@
--- Answers of several bytes, as `zinovoky.h` lists them: two session keys in 32.
+-- Answers of several bytes, as `zinovoky.h` lists them: two session keys in 32, the fields of a join-request in 22 and those
+-- of a clear join-accept in 42.
 -- Assumes nothing.
-use mathlib.Core.List.{List, _++_}
-use Prim.Native.Nat.{ℕ}
+use mathlib.Core.List.{List, [], _∷_, _++_}
+use Prim.Native.Nat.{ℕ, _/_, _%_}
 use lib.ListN.{length}
+use Rattle.base.specs.Bytes.{tab, at}
+use Rattle.frame.specs.declared.refusals.Refusal.{Refusal}
+use Rattle.frame.specs.declared.join_fields.CfList.{CfList}
+use Rattle.frame.specs.declared.join_fields.CfList.the-variants.{Absent, Frequencies, Masks}
+use Rattle.frame.specs.declared.join_fields.JoinRequestFields.{JoinRequestFields}
+use Rattle.frame.specs.declared.join_fields.JoinAcceptFields.{JoinAcceptFields}
 use Rattle.frame_opening.specs.declared.join_accept.SessionKeys.{SessionKeys}
 use Rattle.frame_c.specs.CAnswers.{orShort, Fills}
 
--- what storing session keys promises, of its answer r and the output e, which was l: the refusal beside them, 7 where there is
--- no room, or the network key, then the application key
+-- what storing so many bytes beside a refusal promises, of its answer r and the output e, which was l: the refusal, 7 where
+-- there is no room, or these bytes
+abbrev pub StoredInto : Refusal → ℕ → List ℕ → List ℕ → ℕ → List ℕ → Type 0
+StoredInto x count bytes l r e = Fills (orShort (x .number) count (length l)) (x .place) bytes l r e
+
+-- session keys: the network key, then the application key
 abbrev pub KeysInto : SessionKeys → List ℕ → ℕ → List ℕ → Type 0
-KeysInto k l r e = Fills (orShort (k .refusal .number) 32 (length l)) (k .refusal .place) (k .«nwk_skey» ++ k .«app_skey») l r e
+KeysInto k l r e = StoredInto (k .refusal) 32 (k .«nwk_skey» ++ k .«app_skey») l r e
+
+-- a join-request: AppEUI, DevEUI, DevNonce, MIC
+unfoldable pub requestEuis : JoinRequestFields → List ℕ
+requestEuis j = tab 8 (at (j .«app_eui»)) ++ tab 8 (at (j .«dev_eui»))
+
+unfoldable pub requestEnd : JoinRequestFields → List ℕ
+requestEnd j = tab 2 (at (j .«dev_nonce»)) ++ tab 4 (at (j .mic))
+
+abbrev pub RequestInto : JoinRequestFields → List ℕ → ℕ → List ℕ → Type 0
+RequestInto j l r e = StoredInto (j .refusal) 22 (requestEuis j ++ requestEnd j) l r e
+
+-- which list a join-accept holds: 0 none, 1 frequencies, 2 masks
+abbrev pub listNumber : CfList → ℕ
+listNumber Absent = 0
+listNumber Frequencies = 1
+listNumber Masks = 2
+
+-- a number of 32 bits, low byte first
+abbrev pub fourBytes : ℕ → List ℕ
+fourBytes n = (n % 256) ∷ (n / 256 % 256) ∷ (n / 65536 % 256) ∷ (n / 16777216 % 256) ∷ []
+
+unfoldable pub frequencyBytes : List ℕ → List ℕ
+frequencyBytes q = fourBytes (at q 0) ++ fourBytes (at q 1) ++ fourBytes (at q 2) ++ fourBytes (at q 3) ++ fourBytes (at q 4)
+
+-- a clear join-accept: AppNonce, NetID, DevAddr, DLSettings, RxDelay, which list it holds, nine masks; then the frequencies
+unfoldable pub acceptFixed : JoinAcceptFields → ℕ → List ℕ
+acceptFixed j list =
+    tab 3 (at (j .«app_nonce»)) ++ tab 3 (at (j .«net_id»)) ++ tab 4 (at (j .«dev_addr»))
+    ++ (j .«dl_settings» ∷ j .«rx_delay» ∷ list ∷ [])
+    ++ tab 9 (at (j .masks))
+
+abbrev pub AcceptInto : JoinAcceptFields → List ℕ → ℕ → List ℕ → Type 0
+AcceptInto j l r e =
+    StoredInto (j .refusal) 42 (acceptFixed j (listNumber (j .«cf_list»)) ++ frequencyBytes (j .frequencies)) l r e

@@ -63,7 +63,7 @@ fn data_read(frame: &[u8], data: &DataFields) -> Vec<u8> {
 fn reading(frame: &[u8]) -> Vec<u8> {
     match read(frame) {
         Err(refusal) => vec![refusal.number()],
-        Ok(Reading::JoinRequest(r)) => [&[0, 0], r.app_eui, r.dev_eui, r.dev_nonce, r.mic].concat(),
+        Ok(Reading::JoinRequest(r)) => [&[0, 0], &r.app_eui[..], &r.dev_eui, &r.dev_nonce, &r.mic].concat(),
         Ok(Reading::JoinAccept { length }) => vec![0, 1, length as u8],
         Ok(Reading::Data(data)) => data_read(frame, &data),
     }

@@ -1,67 +1,77 @@
-//! What a clear join-accept says. The proved reader accepts the frame; the places are those of docs/RULES.md, Reading.
+//! What a clear join-accept says.
 
-use crate::reading::part;
-use crate::{read, Reading, Refusal, Result};
+use crate::reading::bytes_at;
+use crate::{ffi, Result};
 
-/// A join-accept that is clear.
+/// The list that a join-accept holds.
 #[derive(Clone, Copy, Debug, PartialEq, Eq)]
-pub struct ClearJoinAccept<'a>(&'a [u8]);
+enum List {
+    None,
+    Channels([u32; 5]),
+    Mask([u8; 9]),
+}
 
-impl<'a> ClearJoinAccept<'a> {
+/// The fields of a join-accept that is clear.
+#[derive(Clone, Copy, Debug, PartialEq, Eq)]
+pub struct ClearJoinAccept {
+    fixed: [u8; 12],
+    list: List,
+    mic: [u8; 4],
+}
+
+impl ClearJoinAccept {
     /// Refusals: the reader's, and 4 for a frame of another type. That the frame is clear and its MIC good is the
     /// caller's to know: [`crate::decrypt_join_accept_checked`].
-    pub fn read(clear: &'a [u8]) -> Result<Self> {
-        match read(clear)? {
-            Reading::JoinAccept { .. } => Ok(ClearJoinAccept(clear)),
-            _ => Err(Refusal::InvalidData),
-        }
+    pub fn read(clear: &[u8]) -> Result<Self> {
+        let fields = ffi::join_accept_fields(clear)?;
+        Ok(ClearJoinAccept {
+            fixed: bytes_at(&fields, 0),
+            list: match fields[12] {
+                0 => List::None,
+                1 => List::Channels(std::array::from_fn(|i| u32::from_le_bytes(bytes_at(&fields, 22 + 4 * i)))),
+                _ => List::Mask(bytes_at(&fields, 13)),
+            },
+            mic: bytes_at(clear, ffi::read(clear)?.mic_at()),
+        })
     }
 
-    fn byte(&self, place: usize) -> u8 {
-        self.0.get(place).copied().unwrap_or(0)
+    pub fn app_nonce(&self) -> &[u8] {
+        &self.fixed[..3]
     }
 
-    pub fn app_nonce(&self) -> &'a [u8] {
-        part(self.0, 1, 4)
+    pub fn net_id(&self) -> &[u8] {
+        &self.fixed[3..6]
     }
 
-    pub fn net_id(&self) -> &'a [u8] {
-        part(self.0, 4, 7)
-    }
-
-    pub fn dev_addr(&self) -> &'a [u8] {
-        part(self.0, 7, 11)
+    pub fn dev_addr(&self) -> &[u8] {
+        &self.fixed[6..10]
     }
 
     pub fn dl_settings(&self) -> u8 {
-        self.byte(11)
+        self.fixed[10]
     }
 
     pub fn rx_delay(&self) -> u8 {
-        self.byte(12) % 16
+        self.fixed[11]
     }
 
-    pub fn mic(&self) -> &'a [u8] {
-        part(self.0, self.0.len().saturating_sub(4), self.0.len())
-    }
-
-    /// The kind of list, if there is one: byte 28 of 33.
-    fn list(&self) -> Option<u8> {
-        (self.0.len() == 33).then(|| self.byte(28))
+    pub fn mic(&self) -> &[u8] {
+        &self.mic
     }
 
     /// A list of kind 0: five channels in units of 100 Hz.
     pub fn channels(&self) -> Option<[u32; 5]> {
-        (self.list() == Some(0)).then(|| {
-            std::array::from_fn(|i| {
-                let at = 13 + 3 * i;
-                u32::from_le_bytes([self.byte(at), self.byte(at + 1), self.byte(at + 2), 0])
-            })
-        })
+        match self.list {
+            List::Channels(channels) => Some(channels),
+            _ => None,
+        }
     }
 
     /// A list of kind 1: nine mask bytes.
-    pub fn channel_mask(&self) -> Option<&'a [u8]> {
-        (self.list() == Some(1)).then(|| part(self.0, 13, 22))
+    pub fn channel_mask(&self) -> Option<[u8; 9]> {
+        match self.list {
+            List::Mask(mask) => Some(mask),
+            _ => None,
+        }
     }
 }

@@ -9,6 +9,8 @@ use crate::{Refusal, Result};
 mod c {
     extern "C" {
         pub fn zinovoky_read(frame: *const u8, frame_len: usize) -> u64;
+        pub fn zinovoky_join_request_fields(frame: *const u8, len: usize, fields: *mut u8, fields_len: usize) -> u64;
+        pub fn zinovoky_join_accept_fields(frame: *const u8, len: usize, fields: *mut u8, fields_len: usize) -> u64;
         pub fn zinovoky_join_request_mic(frame: *const u8, len: usize, app_key: *const u8, passes: *mut u8) -> u64;
         pub fn zinovoky_join_accept_mic(frame: *const u8, len: usize, app_key: *const u8, passes: *mut u8) -> u64;
         pub fn zinovoky_data_mic(frame: *const u8, len: usize, key: *const u8, counter: u32, passes: *mut u8) -> u64;
@@ -103,6 +105,26 @@ fn built(answer: u64) -> Result<usize> {
 pub fn read(frame: &[u8]) -> Result<Packed> {
     // SAFETY: see the head of the file.
     answered(unsafe { c::zinovoky_read(frame.as_ptr(), frame.len()) }).map(Packed)
+}
+
+/// AppEUI, DevEUI, DevNonce, MIC.
+#[inline]
+pub fn join_request_fields(frame: &[u8]) -> Result<[u8; 22]> {
+    let mut fields = [0; 22];
+    let (place, room) = (fields.as_mut_ptr(), fields.len());
+    // SAFETY: see the head of the file; `fields` has the room that is asked for.
+    answered(unsafe { c::zinovoky_join_request_fields(frame.as_ptr(), frame.len(), place, room) })?;
+    Ok(fields)
+}
+
+/// AppNonce, NetID, DevAddr, DLSettings, RxDelay, the list that there is, masks, frequencies.
+#[inline]
+pub fn join_accept_fields(frame: &[u8]) -> Result<[u8; 42]> {
+    let mut fields = [0; 42];
+    let (place, room) = (fields.as_mut_ptr(), fields.len());
+    // SAFETY: see the head of the file; `fields` has the room that is asked for.
+    answered(unsafe { c::zinovoky_join_accept_fields(frame.as_ptr(), frame.len(), place, room) })?;
+    Ok(fields)
 }
 
 #[inline]

@@ -33,10 +33,10 @@ impl DataKind {
     }
 }
 
-/// A frame that was read: each part is that part of the caller's bytes.
+/// A frame that was read.
 #[derive(Clone, Copy, Debug, PartialEq, Eq)]
 pub enum Reading<'a> {
-    JoinRequest(JoinRequestFields<'a>),
+    JoinRequest(JoinRequestFields),
     /// 17 or 33 bytes, of which all but the first are enciphered. See [`crate::decrypt_join_accept_checked`].
     JoinAccept {
         length: usize,
@@ -44,13 +44,26 @@ pub enum Reading<'a> {
     Data(DataFields<'a>),
 }
 
-/// The parts of a join-request, in frame order.
+/// The fields of a join-request, in frame order.
 #[derive(Clone, Copy, Debug, PartialEq, Eq)]
-pub struct JoinRequestFields<'a> {
-    pub app_eui: &'a [u8],
-    pub dev_eui: &'a [u8],
-    pub dev_nonce: &'a [u8],
-    pub mic: &'a [u8],
+pub struct JoinRequestFields {
+    pub app_eui: [u8; 8],
+    pub dev_eui: [u8; 8],
+    pub dev_nonce: [u8; 2],
+    pub mic: [u8; 4],
+}
+
+impl JoinRequestFields {
+    /// Refusals: the reader's, and 4 for a frame of another type.
+    pub fn read(frame: &[u8]) -> Result<Self> {
+        let fields = ffi::join_request_fields(frame)?;
+        Ok(JoinRequestFields {
+            app_eui: bytes_at(&fields, 0),
+            dev_eui: bytes_at(&fields, 8),
+            dev_nonce: bytes_at(&fields, 16),
+            mic: bytes_at(&fields, 18),
+        })
+    }
 }
 
 /// The payload of a data frame, enciphered if the frame is.
@@ -154,10 +167,9 @@ impl<'a> DataFields<'a> {
     }
 }
 
-/// A part of the frame; the places come from the reader, which gives none outside the frame.
-#[inline]
-pub(crate) fn part(frame: &[u8], from: usize, to: usize) -> &[u8] {
-    frame.get(from..to).unwrap_or(&[])
+/// So many of the bytes that an answer has, from a place on.
+pub(crate) fn bytes_at<const N: usize>(answer: &[u8], from: usize) -> [u8; N] {
+    std::array::from_fn(|i| answer.get(from + i).copied().unwrap_or(0))
 }
 
 /// Reads a frame of at most 255 bytes.
@@ -183,15 +195,10 @@ pub(crate) fn part(frame: &[u8], from: usize, to: usize) -> &[u8] {
 pub fn read(frame: &[u8]) -> Result<Reading<'_>> {
     let packed = ffi::read(frame)?;
     let Some(kind) = DataKind::of(packed.kind()) else {
-        return Ok(match packed.kind() {
-            0 => Reading::JoinRequest(JoinRequestFields {
-                app_eui: part(frame, 1, 9),
-                dev_eui: part(frame, 9, 17),
-                dev_nonce: part(frame, 17, 19),
-                mic: part(frame, packed.mic_at(), frame.len()),
-            }),
-            _ => Reading::JoinAccept { length: frame.len() },
-        });
+        return match packed.kind() {
+            0 => JoinRequestFields::read(frame).map(Reading::JoinRequest),
+            _ => Ok(Reading::JoinAccept { length: frame.len() }),
+        };
     };
     DataFields::new(frame, kind, packed).map(Reading::Data).ok_or(Refusal::InvalidData)
 }

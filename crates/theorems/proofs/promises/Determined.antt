@@ -87,6 +87,8 @@ use Rattle.frame_c.proofs.opening.zinovoky_decrypt_join_accept.Reads as c-decry
 use Rattle.frame_c.proofs.opening.zinovoky_decrypt_join_accept_checked.Reads as c-decrypt-join-accept-checked
 use Rattle.frame_c.proofs.opening.zinovoky_session_keys.Reads as c-session-keys
 use Rattle.frame_c.proofs.reading.zinovoky_read.Reads as c-read
+use Rattle.frame_c.proofs.reading.zinovoky_join_request_fields.Reads as c-join-request-fields
+use Rattle.frame_c.proofs.reading.zinovoky_join_accept_fields.Reads as c-join-accept-fields
 use Rattle.frame_c.proofs.building.zinovoky_build_join_request.Reads as c-build-join-request
 use Rattle.frame_c.proofs.building.zinovoky_build_join_accept.Reads as c-build-join-accept
 use Rattle.frame_c.proofs.building.zinovoky_build_data.Reads as c-build-data
@@ -356,6 +358,12 @@ c-session-keys-determined κs a x y s t p q = (p .answer ∙ sym (q .answer), p 
 
 pub c-read-determined : Determined c-read.Learnt
 c-read-determined κs a x y s t p q = p ∙ sym q
+
+pub c-join-request-fields-determined : DeterminedLent (λ κs s. now (s .1 .0)) c-join-request-fields.Learnt
+c-join-request-fields-determined κs a x y s t p q = (p .answer ∙ sym (q .answer), p .output ∙ sym (q .output))
+
+pub c-join-accept-fields-determined : DeterminedLent (λ κs s. now (s .1 .0)) c-join-accept-fields.Learnt
+c-join-accept-fields-determined κs a x y s t p q = (p .answer ∙ sym (q .answer), p .output ∙ sym (q .output))
 
 pub c-build-join-request-determined : DeterminedLent (λ κs s. now (s .1 .1 .1 .1 .0)) c-build-join-request.Learnt
 c-build-join-request-determined κs a x y s t p q = (p .answer ∙ sym (q .answer), p .output ∙ sym (q .output))
