@@ -20,7 +20,8 @@
  *   14 CounterMismatch           the low half of the counter differs from the frame's FCnt
  *   15 OffsetOutside             an offset at or past the payload's length
  *
- * The bytes above the low one hold the place of a refusal (0 in this version), or of a building the frame's length.
+ * The bytes above the low one hold the place of a refusal (0 in this version), or of a building the frame's length, as of a
+ * frame that is taken out of a buffer.
  * A refusal changes no byte that was lent.
  */
 #ifndef ZINOVOKY_H
@@ -111,6 +112,22 @@ uint64_t zinovoky_build_data(uint8_t kind, const uint8_t *dev_addr, uint8_t fctr
 /* Amends payload bytes of a data frame where it lies. Each amendment is offset * 256 + value, the value clear. The first
  * refusal of the opening or of an amendment is answered, and then no byte is changed. */
 uint64_t zinovoky_amend(uint8_t *frame, size_t frame_len, const uint8_t *nwk_skey, const uint8_t *app_skey, uint32_t counter, const uint32_t *amendments, size_t amendments_len);
+
+/* A frame held open in a buffer of ZINOVOKY_HELD_LEN bytes that the caller lends, so that it is opened once and altered many
+ * times. The buffer holds the frame with zeros behind it (255 bytes), its length (1), the expanded network key (176) and
+ * application key (176), the chain values of the MIC (256) and the counter (4, low byte first): it is as secret as the keys,
+ * and is to be cleared after use. A copy of it is another open frame. Whatever bytes it holds, each call has a determined
+ * answer.
+ *
+ * `zinovoky_hold` opens a frame into the buffer and answers as zinovoky_amend does of the opening. `zinovoky_held_amend` sets
+ * the payload byte at the offset to the clear value and signs anew: 15 where there is no such byte. A list of amendments, each
+ * offset * 256 + value, is signed once; where any is refused, none is made. `zinovoky_held_frame` copies the frame to the start
+ * of `out` and answers its length above the low byte, or 7 where it does not fit. */
+#define ZINOVOKY_HELD_LEN 868
+uint64_t zinovoky_hold(const uint8_t *frame, size_t frame_len, const uint8_t *nwk_skey, const uint8_t *app_skey, uint32_t counter, uint8_t *buffer);
+uint64_t zinovoky_held_amend(uint8_t *buffer, size_t offset, uint8_t value);
+uint64_t zinovoky_held_amend_list(uint8_t *buffer, const uint32_t *amendments, size_t amendments_len);
+uint64_t zinovoky_held_frame(const uint8_t *buffer, uint8_t *out, size_t out_len);
 
 #ifdef __cplusplus
 }

@@ -1,5 +1,6 @@
 -- What the functions for C answer: one number for each case of each answer, the refusal's number (docs/RULES.md, Refusals; 0 where
--- there is none) in its low byte, and above it the place of the refusal or, of a building, the frame's length.
+-- there is none) in its low byte, and above it the place of the refusal or, of a building and of a frame taken out of a
+-- buffer, the frame's length.
 -- Assumes nothing.
 use mathlib.Core.Path.{_≡_}
 use mathlib.Core.List.{List}
@@ -15,6 +16,7 @@ use Rattle.frame_opening.specs.declared.mic_tests.MicTest.the-variants.{Passes,
 use Rattle.frame_opening.specs.declared.payload.Opening.{Opening}
 use lib.ListN.{length}
 use Rattle.frame.specs.declared.refusals.Refusal.{Refusal}
+use Rattle.amend_held.specs.declared.calls.Taken.{Taken}
 
 -- the value above the low byte counts modulo 65,536
 unfoldable pub cAnswer : ℕ → ℕ → ℕ
@@ -59,6 +61,10 @@ pub record Fills (refusal place : ℕ) (bytes l : List ℕ) (r : ℕ) (e : List 
 -- a refusal, or none: amendments to a lent frame
 abbrev pub refusalAnswer : Refusal → ℕ
 refusalAnswer r = cAnswer (r .number) (r .place)
+
+-- a frame taken out of a buffer that holds it: its length, or the number of the refusal
+abbrev pub takenAnswer : Taken → ℕ
+takenAnswer t = cAnswer (t .refusal .number) (t .length)
 
 -- what a call promises that builds a frame, or is refused by a number that is not 0: its answer r, and the output e, of
 -- the output l as it was

@@ -2,7 +2,7 @@
 -- of a clear join-accept in 42.
 -- Assumes nothing.
 use mathlib.Core.List.{List, [], _∷_, _++_}
-use Prim.Native.Nat.{ℕ, _/_, _%_}
+use Prim.Native.Nat.{ℕ}
 use lib.ListN.{length}
 use Rattle.base.specs.Bytes.{tab, at}
 use Rattle.frame.specs.declared.refusals.Refusal.{Refusal}
@@ -10,6 +10,7 @@ use Rattle.frame.specs.declared.join_fields.CfList.{CfList}
 use Rattle.frame.specs.declared.join_fields.CfList.the-variants.{Absent, Frequencies, Masks}
 use Rattle.frame.specs.declared.join_fields.JoinRequestFields.{JoinRequestFields}
 use Rattle.frame.specs.declared.join_fields.JoinAcceptFields.{JoinAcceptFields}
+use Rattle.amend_held.specs.HeldBuffer.{fourBytes}
 use Rattle.frame_opening.specs.declared.join_accept.SessionKeys.{SessionKeys}
 use Rattle.frame_c.specs.CAnswers.{orShort, Fills}
 
@@ -38,10 +39,7 @@ listNumber Absent = 0
 listNumber Frequencies = 1
 listNumber Masks = 2
 
--- a number of 32 bits, low byte first
-abbrev pub fourBytes : ℕ → List ℕ
-fourBytes n = (n % 256) ∷ (n / 256 % 256) ∷ (n / 65536 % 256) ∷ (n / 16777216 % 256) ∷ []
-
+-- five frequencies, of four bytes each
 unfoldable pub frequencyBytes : List ℕ → List ℕ
 frequencyBytes q = fourBytes (at q 0) ++ fourBytes (at q 1) ++ fourBytes (at q 2) ++ fourBytes (at q 3) ++ fourBytes (at q 4)
 

@@ -3,5 +3,6 @@
 pub mod amending;
 pub mod building;
 mod conversions;
+pub mod holding;
 pub mod opening;
 pub mod reading;

@@ -15,7 +15,7 @@ pub struct Frame {
 }
 
 impl Frame {
-    fn built(build: impl FnOnce(&mut [u8]) -> Result<usize>) -> Result<Frame> {
+    pub(crate) fn built(build: impl FnOnce(&mut [u8]) -> Result<usize>) -> Result<Frame> {
         let mut bytes = [0; MAX_FRAME];
         let length = build(&mut bytes)?;
         Ok(Frame { bytes, length: length.min(MAX_FRAME) })

@@ -81,10 +81,24 @@ mod c {
             amendments: *const u32,
             amendments_len: usize,
         ) -> u64;
+        pub fn zinovoky_hold(
+            frame: *const u8,
+            frame_len: usize,
+            nwk_skey: *const u8,
+            app_skey: *const u8,
+            counter: u32,
+            buffer: *mut u8,
+        ) -> u64;
+        pub fn zinovoky_held_amend(buffer: *mut u8, offset: usize, value: u8) -> u64;
+        pub fn zinovoky_held_amend_list(buffer: *mut u8, amendments: *const u32, amendments_len: usize) -> u64;
+        pub fn zinovoky_held_frame(buffer: *const u8, out: *mut u8, out_len: usize) -> u64;
     }
 }
 
 type Key = [u8; 16];
+
+/// What holds an open frame, ZINOVOKY_HELD_LEN bytes.
+pub type Held = [u8; 868];
 
 /// The low byte is the refusal's number or 0; above it stands what was built, as a length, or what was read.
 #[inline]
@@ -95,7 +109,7 @@ fn answered(answer: u64) -> Result<u64> {
     }
 }
 
-/// The length of what was built.
+/// The length of what was built or taken out.
 #[inline]
 fn built(answer: u64) -> Result<usize> {
     Ok((answered(answer)? >> 8) as usize)
@@ -274,4 +288,43 @@ pub fn amend(
     // SAFETY: see the head of the file; an Amendment is a transparent u32.
     answered(unsafe { c::zinovoky_amend(place, length, nwk_skey.as_ptr(), app_skey.as_ptr(), counter, list, count) })?;
     Ok(())
+}
+
+#[inline]
+pub fn hold(frame: &[u8], nwk_skey: &Key, app_skey: &Key, counter: u32, buffer: &mut Held) -> Result<()> {
+    let (place, length) = (frame.as_ptr(), frame.len());
+    // SAFETY: see the head of the file.
+    answered(unsafe {
+        c::zinovoky_hold(place, length, nwk_skey.as_ptr(), app_skey.as_ptr(), counter, buffer.as_mut_ptr())
+    })?;
+    Ok(())
+}
+
+#[inline]
+pub fn held_amend(buffer: &mut Held, offset: usize, value: u8) -> Result<()> {
+    // SAFETY: see the head of the file.
+    answered(unsafe { c::zinovoky_held_amend(buffer.as_mut_ptr(), offset, value) })?;
+    Ok(())
+}
+
+#[inline]
+pub fn held_amend_list(buffer: &mut Held, amendments: &[crate::Amendment]) -> Result<()> {
+    let (list, count) = (amendments.as_ptr().cast::<u32>(), amendments.len());
+    // SAFETY: see the head of the file; an Amendment is a transparent u32.
+    answered(unsafe { c::zinovoky_held_amend_list(buffer.as_mut_ptr(), list, count) })?;
+    Ok(())
+}
+
+#[inline]
+pub fn held_frame(buffer: &Held, out: &mut [u8]) -> Result<usize> {
+    // SAFETY: see the head of the file.
+    built(unsafe { c::zinovoky_held_frame(buffer.as_ptr(), out.as_mut_ptr(), out.len()) })
+}
+
+/// Zeros over every byte, by writes that the compiler may not leave out.
+pub fn clear(buffer: &mut Held) {
+    for byte in buffer {
+        // SAFETY: the byte is borrowed for writing.
+        unsafe { std::ptr::write_volatile(byte, 0) };
+    }
 }

@@ -32,6 +32,7 @@ mod accept;
 mod building;
 #[allow(unsafe_code)]
 mod ffi;
+mod holding;
 mod keys;
 mod opening;
 mod packed;
@@ -40,6 +41,7 @@ mod refusal;
 
 pub use accept::ClearJoinAccept;
 pub use building::{Data, Frame, JoinAccept, JoinRequest, MAX_FRAME};
+pub use holding::OpenFrame;
 pub use keys::{AppKey, AppSKey, NwkSKey, SessionKeys};
 pub use opening::{
     amend, data_mic, decrypt_data, decrypt_data_checked, decrypt_join_accept, decrypt_join_accept_checked,

@@ -77,6 +77,10 @@ use Rattle.amend.proofs.opening.open_frame.Reads as amend-open-frame
 use Rattle.amend.proofs.amending.Open.amend.Reads as amend-open-amend
 use Rattle.amend.proofs.list.amend_list.Reads as amend-amend-list
 use Rattle.amend.proofs.list.amend_frame.Reads as amend-amend-frame
+use Rattle.amend_held.proofs.calls.open_into.Reads as amend-held-open-into
+use Rattle.amend_held.proofs.calls.amend_held.Reads as amend-held-amend-held
+use Rattle.amend_held.proofs.calls.amend_list_held.Reads as amend-held-amend-list-held
+use Rattle.amend_held.proofs.calls.frame_of.Reads as amend-held-frame-of
 use Rattle.show_text.proofs.describe.Reads as show-text-describe
 use Rattle.frame_c.proofs.opening.zinovoky_join_request_mic.Reads as c-join-request-mic
 use Rattle.frame_c.proofs.opening.zinovoky_join_accept_mic.Reads as c-join-accept-mic
@@ -93,6 +97,10 @@ use Rattle.frame_c.proofs.building.zinovoky_build_join_request.Reads as c-build
 use Rattle.frame_c.proofs.building.zinovoky_build_join_accept.Reads as c-build-join-accept
 use Rattle.frame_c.proofs.building.zinovoky_build_data.Reads as c-build-data
 use Rattle.frame_c.proofs.amending.zinovoky_amend.Reads as c-amend
+use Rattle.frame_c.proofs.holding.zinovoky_hold.Reads as c-hold
+use Rattle.frame_c.proofs.holding.zinovoky_held_amend.Reads as c-held-amend
+use Rattle.frame_c.proofs.holding.zinovoky_held_amend_list.Reads as c-held-amend-list
+use Rattle.frame_c.proofs.holding.zinovoky_held_frame.Reads as c-held-frame
 
 -- an answer and a frame that were promised as one
 both : (x y : Result) → x ≡ y → (x .answer ≡ y .answer) × (x .bytes ≡ y .bytes)
@@ -325,6 +333,20 @@ amend-amend-list-determined κs a x y s t p q = p ∙ sym q
 pub amend-amend-frame-determined : DeterminedLent (λ κs s. now (s .0)) amend-amend-frame.Learnt
 amend-amend-frame-determined κs a x y s t p q = (p .0 ∙ sym (q .0), p .1 ∙ sym (q .1))
 
+-- ---- amend_held
+
+pub amend-held-open-into-determined : DeterminedLent (λ κs s. now (s .1 .1 .1 .1 .0)) amend-held-open-into.Learnt
+amend-held-open-into-determined κs a x y s t p q = (p .0 ∙ sym (q .0), p .1 ∙ sym (q .1))
+
+pub amend-held-amend-held-determined : DeterminedLent (λ κs s. now (s .0)) amend-held-amend-held.Learnt
+amend-held-amend-held-determined κs a x y s t p q = (p .0 ∙ sym (q .0), p .1 ∙ sym (q .1))
+
+pub amend-held-amend-list-held-determined : DeterminedLent (λ κs s. now (s .0)) amend-held-amend-list-held.Learnt
+amend-held-amend-list-held-determined κs a x y s t p q = (p .0 ∙ sym (q .0), p .1 ∙ sym (q .1))
+
+pub amend-held-frame-of-determined : DeterminedLent (λ κs s. now (s .1 .0)) amend-held-frame-of.Learnt
+amend-held-frame-of-determined κs a x y s t p q = (p .0 ∙ sym (q .0), p .1 ∙ sym (q .1))
+
 -- ---- show_text
 
 pub show-text-describe-determined : DeterminedLent (λ κs s. now (s .1 .0)) show-text-describe.Learnt
@@ -376,3 +398,15 @@ c-build-data-determined κs a x y s t p q = (p .answer ∙ sym (q .answer), p .o
 
 pub c-amend-determined : DeterminedLent (λ κs s. now (s .0)) c-amend.Learnt
 c-amend-determined κs a x y s t p q = (p .0 ∙ sym (q .0), p .1 ∙ sym (q .1))
+
+pub c-hold-determined : DeterminedLent (λ κs s. now (s .1 .1 .1 .1 .0)) c-hold.Learnt
+c-hold-determined κs a x y s t p q = (p .0 ∙ sym (q .0), p .1 ∙ sym (q .1))
+
+pub c-held-amend-determined : DeterminedLent (λ κs s. now (s .0)) c-held-amend.Learnt
+c-held-amend-determined κs a x y s t p q = (p .0 ∙ sym (q .0), p .1 ∙ sym (q .1))
+
+pub c-held-amend-list-determined : DeterminedLent (λ κs s. now (s .0)) c-held-amend-list.Learnt
+c-held-amend-list-determined κs a x y s t p q = (p .0 ∙ sym (q .0), p .1 ∙ sym (q .1))
+
+pub c-held-frame-determined : DeterminedLent (λ κs s. now (s .1 .0)) c-held-frame.Learnt
+c-held-frame-determined κs a x y s t p q = (p .0 ∙ sym (q .0), p .1 ∙ sym (q .1))

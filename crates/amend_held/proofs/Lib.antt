@@ -1,0 +1,5 @@
+pub mod Demand3Held
+pub mod HeldCallLaws
+pub mod HeldLaws
+pub mod HeldStates
+pub mod HeldUndone

@@ -1,0 +1,2 @@
+pub mod HeldBuffer
+pub mod HeldCalls
