@@ -1,24 +1,26 @@
 -- The call that takes a frame and a whole list of amendments: the three ways in which it ends.
 -- Assumes nothing.
-use mathlib.Core.Path.{_≡_, sym, ap, ap₂, _∙_, subst}
+use mathlib.Core.Path.{_≡_, refl, sym, ap, ap₂, _∙_, subst}
 use mathlib.Core.Bool.{Bool}
 use mathlib.Core.List.{List, [], _++_, append-nil}
 use Prim.Native.Nat.{ℕ, _+_, _≤_}
 use native.Mathlib.Omega.{arith}
 use lib.Dec.{eqb}
 use lib.ListN.{length, take, drop, drop-of-length-le}
-use lib.Seq.{sets, sets-eq}
+use lib.Seq.{sets, sets-eq, take-all}
 use borrow.Author.Tests.{eq-eqb, ne-eqb}
 use Rattle.base.specs.Bytes.{pick}
+use Rattle.frame.specs.Refusals.{notRefused}
 use Rattle.amend.specs.declared.amending.Open.{Open}
 use Rattle.amend.specs.declared.opening.Opened.{Opened}
 use Rattle.amend.specs.declared.amending.Amended.{Amended}
 use Rattle.frame.specs.declared.refusals.Refusal.{Refusal}
-use Rattle.amend.specs.OpenFrame.{openOf}
+use Rattle.amend.specs.OpenFrame.{openOf, openedOf}
 use Rattle.amend.specs.AmendmentLists.{amendAll, amendFrameOf, amendedFrame}
 use Rattle.amend.specs.SignedOnce.{amendListOf}
-use Rattle.amend.proofs.Accepted.{opens-accepted}
-use Rattle.amend.proofs.SignedOnce.{Alike, list-alike}
+use Rattle.amend.proofs.Accepted.{Accepted, accepted-opens, opens-accepted}
+use Rattle.amend.proofs.OneByte.{held-take}
+use Rattle.amend.proofs.SignedOnce.{Alike, list-alike, list-none}
 
 -- a string that takes the place of another of its length
 pub whole-stored : (f g : List ℕ) → length g ≡ length f → sets f 0 g ≡ g
@@ -100,3 +102,18 @@ module _ (f nwk app : List ℕ) (counter : ℕ) (es : List ℕ) (o : Opened) (eo
       list-outcome,
       sym (list-left ∙ ap (λ (t : Bool). pick t (take (length f) (turns .state .frame)) f) (ne-eqb (a .refusal .number) 0 n)),
     )
+
+  -- an empty list leaves the frame as it was opened
+  pub empty-list : o .refusal .number ≡ 0 → length es ≡ 0
+      → (o .refusal ≡ amendFrameOf f nwk app counter es) × (f ≡ amendedFrame f nwk app counter es)
+  unfolding openedOf
+  empty-list z h =
+      let accepted : Accepted f nwk counter =
+      opens-accepted f nwk app counter (ap (λ (x : Opened). x .refusal .number) (sym eo) ∙ z) in
+      let opened = eo ∙ accepted-opens f nwk app counter accepted in
+      let law = whole-list z (record { refusal = notRefused; state = o .state }) (sym (list-none (o .state) es h)) refl in
+      let kept : take (length f) (o .state .frame) ≡ f =
+      ap (λ (x : Opened). take (length f) (x .state .frame)) opened
+      ∙ held-take f (accepted .data-frame .most) (length f) (omega arith)
+      ∙ take-all (length f) f (omega arith) in
+      (ap (λ (x : Opened). x .refusal) opened ∙ law .0, sym kept ∙ law .1)

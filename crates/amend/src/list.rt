@@ -195,6 +195,9 @@ pub fn amend_frame(
     if refusal.number != 0 {
         return refusal;
     }
+    if amendments.len() == 0 {
+        return refusal;
+    }
     let state = opening.state;
     let last = amend_list(state, amendments);
     let outcome = last.refusal;
