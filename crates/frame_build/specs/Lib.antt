@@ -1,5 +1,6 @@
 pub mod DataBuilding
 pub mod DataFrames
 pub mod DataRefusalCases
+pub mod GivenParts
 pub mod JoinBuilding
 pub mod JoinFrames

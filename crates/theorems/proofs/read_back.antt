@@ -1,3 +1,4 @@
+pub mod Built
 pub mod DataOpens
 pub mod DataParts
 pub mod JoinOpens

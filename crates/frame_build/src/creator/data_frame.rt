@@ -9,6 +9,7 @@ ghost use Rattle.base.specs.Storing.{Put};
 ghost use Rattle.frame_build.specs.DataBuilding.{bodyOf, clearData, dataRefusal, fixedHeader, mhdrOf};
 ghost use Rattle.frame_build.specs.DataFrames.{Builds, dataFrame};
 ghost use Rattle.frame_build.specs.DataRefusalCases.{absentRefusal, portRefusal};
+ghost use Rattle.frame_build.specs.GivenParts.{DataGiven};
 use crate::creator::Built;
 use frame::packet_length::FOPTS_MAX_LEN;
 use frame::packet_length::MIC_LEN;
@@ -188,6 +189,7 @@ pub fn build_data(
         ⌜ Builds (dataRefusal d (now (commands .entry)) (now (payload .entry)) (length (now (out .entry))))
         (dataFrame «nwk_skey» «app_skey» d (now (commands .entry)) (now (payload .entry))) (now (out .entry)) r
         (now (out .exit)) ⌝ }
+    ensures { λ _. ⌜ DataGiven d ⌝ }
 {
     let refusal = data_refusal(d, commands, payload, out.len());
     if refusal != 0 {

@@ -6,6 +6,7 @@ ghost use lib.ListN.{length, take};
 ghost use Rattle.base.specs.Storing.{Put};
 ghost use Rattle.frame_build.specs.JoinBuilding.{acceptHead, cfListBytes, frequencyBytes, joinAcceptBody, joinAcceptLength, joinAcceptRefusal, joinRequestBody, joinRequestRefusal, listByte, tooHigh};
 ghost use Rattle.frame_build.specs.DataFrames.{Builds};
+ghost use Rattle.frame_build.specs.GivenParts.{AcceptGiven, RequestGiven};
 ghost use Rattle.frame_build.specs.JoinFrames.{joinAccept, joinRequest};
 ghost use Rattle.frame_security.specs.Security.{joinMic};
 ghost use Rattle.base.specs.Bytes.{at};
@@ -174,6 +175,7 @@ pub fn build_join_request(j: JoinRequestParts, app_key: [u8; 16], out: &mut [u8]
     ensures { λ r.
         ⌜ Builds (joinRequestRefusal (length (now (out .entry)))) (joinRequest «app_key» j) (now (out .entry)) r
         (now (out .exit)) ⌝ }
+    ensures { λ _. ⌜ RequestGiven j ⌝ }
 {
     if out.len() < JOIN_REQUEST_LEN {
         return Built::Refused(Refusal {
@@ -210,6 +212,7 @@ pub fn build_join_accept(
     ensures { λ r.
         ⌜ Builds (joinAcceptRefusal j (now (channels .entry)) (length (now (out .entry))))
         (joinAccept «app_key» j (now (channels .entry))) (now (out .entry)) r (now (out .exit)) ⌝ }
+    ensures { λ _. ⌜ AcceptGiven «app_key» j ⌝ }
 {
     let refusal = join_accept_refusal(j, channels, out.len());
     if refusal != 0 {

@@ -311,13 +311,13 @@ pub frame-build-can-piggyback-determined : Determined frame-build-can-piggyback.
 frame-build-can-piggyback-determined κs a x y s t p q = p ∙ sym q
 
 pub frame-build-build-data-determined : DeterminedLent (λ κs s. now (s .1 .1 .1 .1 .1 .0)) frame-build-build-data.Learnt
-frame-build-build-data-determined κs a x y s t p q = (p .answer ∙ sym (q .answer), p .output ∙ sym (q .output))
+frame-build-build-data-determined κs a x y s t p q = (p .0 .answer ∙ sym (q .0 .answer), p .0 .output ∙ sym (q .0 .output))
 
 pub frame-build-build-join-request-determined : DeterminedLent (λ κs s. now (s .1 .1 .0)) frame-build-build-join-request.Learnt
-frame-build-build-join-request-determined κs a x y s t p q = (p .answer ∙ sym (q .answer), p .output ∙ sym (q .output))
+frame-build-build-join-request-determined κs a x y s t p q = (p .0 .answer ∙ sym (q .0 .answer), p .0 .output ∙ sym (q .0 .output))
 
 pub frame-build-build-join-accept-determined : DeterminedLent (λ κs s. now (s .1 .1 .1 .0)) frame-build-build-join-accept.Learnt
-frame-build-build-join-accept-determined κs a x y s t p q = (p .answer ∙ sym (q .answer), p .output ∙ sym (q .output))
+frame-build-build-join-accept-determined κs a x y s t p q = (p .0 .answer ∙ sym (q .0 .answer), p .0 .output ∙ sym (q .0 .output))
 
 -- ---- amend
 

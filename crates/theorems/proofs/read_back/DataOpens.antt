@@ -1,5 +1,5 @@
--- A data frame that was built passes its MIC test and opens to the clear payload or commands, and says which of the two it
--- holds. What `ReadBackData` shows of the parts, said of what the calls answer.
+-- A data frame that was built passes its MIC test, opens to the clear payload or commands, plain and checked, opens for
+-- amendments, and says whether it holds commands. What `DataParts` shows of the parts, said of what the calls answer.
 -- Assumes nothing.
 use mathlib.Core.Path.{_≡_, sym, ap, ap₂, _∙_}
 use mathlib.Core.Bool.{Bool}
@@ -19,16 +19,21 @@ use Rattle.frame.specs.declared.parser.FrmPayload.{FrmPayload}
 use Rattle.frame.specs.declared.parser.FrmPayload.the-variants.{Data as PlainData, MacCommands}
 use Rattle.frame.proofs.ReadingLaws.{data-read}
 use Rattle.frame.proofs.ReadingSteps.{port-there, port-absent, payload-commands, payload-data}
-use Rattle.frame_opening.specs.FrameOpening.{result, dataTest, dataOpened, givenKey}
-use Rattle.frame_security.specs.Security.{crypted, frameKey, fullCounter}
+use Rattle.frame.specs.ReadingNumbers.{onData}
+use Rattle.frame.specs.Refusals.{refused}
+use Rattle.frame_opening.specs.FrameOpening.{result, unopened, dataPasses, dataTest, openedUnder, dataOpened, givenKey}
+use Rattle.frame_opening.specs.CheckedOpening.{openedTested, dataOpenedChecked}
+use Rattle.frame_security.specs.Security.{crypted, frameKey, fullCounter, covered, dataMic}
+use Rattle.frame_security.proofs.MicCompared.{test-of-same}
+use Rattle.amend.specs.OpenFrame.{openedOf, acceptedOpening, openOf}
+use Rattle.amend.proofs.Accepted.{accepted-opens}
 use Rattle.frame_opening.specs.declared.mic_tests.MicTest.the-variants.{Passes}
 use Rattle.frame_opening.specs.declared.payload.Opening.the-variants.{Opened}
 use Rattle.theorems.proofs.read_back.Opened.{data-mic-exactly}
 use Rattle.theorems.proofs.read_back.OpenedParts.{opened-both}
-use Rattle.frame_build.specs.DataBuilding.{bodyOf, dataHeader, dataRefusal}
-use Rattle.frame_build.specs.DataFrames.{dataFrame}
+use Rattle.frame_build.specs.DataBuilding.{bodyOf, dataHeader}
 use Rattle.frame_build.specs.declared.creator.data_frame.DataParts.{DataParts}
-use Rattle.theorems.proofs.read_back.DataParts.{DataBack, data-back}
+use Rattle.theorems.proofs.read_back.DataParts.{DataBack}
 
 -- what a port says of the payload behind it
 abbrev pub heldBy : ℕ → ℕ → ℕ → FrmPayload
@@ -64,6 +69,9 @@ pub record DataOpens (nwk app : List ℕ) (d : DataParts) (commands body f : Lis
   pub passes : dataTest nwk (d .fcnt) f ≡ Passes
   pub opens : dataOpened (givenKey nwk) (givenKey app) (d .fcnt) f
       ≡ result Opened (dataHeader d commands ++ (bodyOf (d .port) commands body ++ micOf f))
+  pub opens-checked : dataOpenedChecked nwk (givenKey app) (d .fcnt) f
+      ≡ result Opened (dataHeader d commands ++ (bodyOf (d .port) commands body ++ micOf f))
+  pub opens-to-amend : openOf f nwk app (d .fcnt) ≡ acceptedOpening (openedOf f nwk app (d .fcnt))
   -- commands on port 0, data on another, where there is a byte
   pub holds : (q : ℕ) → d .port ≡ Port q → 0 < length (bodyOf (d .port) commands body)
       → payloadOf f ≡ heldBy q (payloadStart f) (payloadEnd f)
@@ -84,15 +92,25 @@ module _ (nwk app : List ℕ) (d : DataParts) (commands body f : List ℕ) (b : 
       whole-counter
       ∙ ap₂ (λ (s t : List ℕ). result Opened (s ++ (t ++ micOf f))) (b .header-back) (b .payload-back)
 
-  opens-back : DataOpens nwk app d commands body f
-  opens-back =
+  -- where the MIC is right, the checked opening is the plain one
+  checked-back : dataOpenedChecked nwk (givenKey app) (d .fcnt) f ≡ dataOpened (givenKey nwk) (givenKey app) (d .fcnt) f
+  unfolding dataOpenedChecked openedTested dataPasses dataOpened
+  checked-back =
+      let under = openedUnder (frameKey f (givenKey nwk) (givenKey app)) (d .fcnt) f in
+      ap (onData (λ x. openedTested nwk (givenKey app) (d .fcnt) f) (unopened f)) (b .reads)
+      ∙ ap (λ (t : Bool). pick t under (unopened f (refused 5)))
+      (test-of-same (micOf f) (dataMic nwk (covered f) (d .fcnt)) (b .mic-back))
+      ∙ sym (ap (onData (λ x. under) (unopened f)) (b .reads))
+
+  -- of what `data-back` gives
+  pub data-opens : DataOpens nwk app d commands body f
+  data-opens =
       record {
         passes = data-mic-exactly nwk f (d .fcnt) is-data .back (b .mic-back);
         opens = opened-back;
+        opens-checked = checked-back ∙ opened-back;
+        opens-to-amend =
+            accepted-opens f nwk app (d .fcnt)
+            (record { data-frame = is-data; low-half = sym (b .count); signed = sym (b .mic-back) });
         holds = λ q e some. held-by f q (b .port q e some);
       }
-
-pub data-opens : (nwk app : List ℕ) (d : DataParts) → length (d .«dev_addr») ≡ 4 → (commands body : List ℕ) (room : ℕ)
-    → dataRefusal d commands body room ≡ 0 → DataOpens nwk app d commands body (dataFrame nwk app d commands body)
-data-opens nwk app d four commands body room e =
-    opens-back nwk app d commands body (dataFrame nwk app d commands body) (data-back nwk app d four commands body room e)

@@ -18,6 +18,7 @@ use Rattle.frame.specs.Reading.{portOf, payloadOf, dataOf, readOf}
 use Rattle.frame.specs.Conditions.{IsData}
 use Rattle.frame_build.specs.DataBuilding.{isAbsent, mhdrOf, portBytes, foptsOf, bodyOf, dataHeader, dataRefusal}
 use Rattle.frame_build.specs.DataFrames.{dataFrame}
+use Rattle.frame_build.specs.GivenParts.{DataGiven}
 use Rattle.frame_security.specs.Sealing.{enciphered, sealed}
 use Rattle.frame_security.specs.Security.{crypted, payloadKey, frameKey, dataMic}
 use Rattle.frame.specs.declared.parser.FPort.{FPort}
@@ -279,9 +280,10 @@ pub record DataBack (nwk app : List ℕ) (d : DataParts) (commands body f : List
   pub payload-back : crypted (frameKey f nwk app) (header f) (d .fcnt) (payload f) ≡ bodyOf (d .port) commands body
   pub mic-back : micOf f ≡ dataMic nwk (take (length f - 4) f) (d .fcnt)
 
-pub data-back : (nwk app : List ℕ) (d : DataParts) → length (d .«dev_addr») ≡ 4 → (commands body : List ℕ) (room : ℕ)
+pub data-back : (nwk app : List ℕ) (d : DataParts) → DataGiven d → (commands body : List ℕ) (room : ℕ)
     → dataRefusal d commands body room ≡ 0 → DataBack nwk app d commands body (dataFrame nwk app d commands body)
-data-back nwk app d four commands body room e =
+data-back nwk app d g commands body room e =
+    let four : length (d .«dev_addr») ≡ 4 = g .address in
     let ok : Buildable d commands body room = accepted d commands body room e in
     record {
       reads = back-reads nwk app d four commands body room ok;

@@ -1,42 +1,84 @@
--- What was built passes its MIC test and opens: a join-request passes, a join-accept opens, checked, to the clear bytes and
--- their MIC. What `ReadBackJoin` shows of the parts, said of what the calls answer.
+-- What was built passes its MIC test and opens: a join-request passes and gives its fields; a join-accept opens, checked, to bytes
+-- that are read as a join-accept, pass and give its fields. What `JoinParts` shows of the parts, said of what the calls answer.
 -- Assumes nothing.
-use mathlib.Core.Path.{_≡_, ap, _∙_}
+use mathlib.Core.Path.{_≡_, refl, sym, ap, subst, _∙_}
 use mathlib.Core.Bool.{Bool}
 use mathlib.Core.List.{List}
 use Prim.Native.Nat.{ℕ}
 use Rattle.base.specs.Bytes.{pick}
+use Rattle.frame.specs.JoinFields.{requestFields, noRequest, joinRequestFields, acceptFields, noAccept, joinAcceptFields}
 use Rattle.frame.specs.Layout.{micOf}
-use Rattle.frame.specs.ReadingNumbers.{onAccept}
-use Rattle.frame.proofs.ReadingLaws.{request-read}
-use Rattle.frame_opening.specs.FrameOpening.{result, unopened, joinPasses, joinRequestTest}
+use Rattle.frame.specs.Reading.{readOf}
+use Rattle.frame.specs.ReadingNumbers.{onRequest, onAccept}
+use Rattle.frame.specs.Refusals.{refused}
+use Rattle.frame.specs.declared.parser.Reading.the-variants.{JoinRequest, JoinAccept}
+use Rattle.frame.proofs.ReadingLaws.{request-read, accept-read}
+use Rattle.frame_opening.specs.FrameOpening.{Result, result, unopened, joinPasses, joinRequestTest, joinAcceptTest}
 use Rattle.frame_opening.specs.CheckedOpening.{acceptTested, acceptOpenedChecked}
 use Rattle.frame_security.specs.JoinAcceptCipher.{acceptDecrypted}
-use Rattle.frame.specs.Refusals.{refused}
 use Rattle.frame_security.specs.Security.{covered, joinMic}
 use Rattle.frame_opening.specs.declared.mic_tests.MicTest.the-variants.{Passes}
 use Rattle.frame_opening.specs.declared.payload.Opening.the-variants.{Opened}
-use Rattle.theorems.proofs.read_back.Opened.{request-mic-exactly}
+use Rattle.theorems.proofs.read_back.Opened.{request-mic-exactly, accept-mic-exactly}
 use Rattle.frame_security.proofs.MicCompared.{test-of-same}
-use Rattle.frame_build.specs.JoinBuilding.{joinAcceptBody}
+use Rattle.frame_build.specs.JoinBuilding.{joinAcceptBody, joinAcceptLength, joinRequestBody}
 use Rattle.frame_build.specs.JoinFrames.{signed}
 use Rattle.frame_build.specs.declared.creator.join.JoinAcceptParts.{JoinAcceptParts}
 use Rattle.frame_build.specs.declared.creator.join.JoinRequestParts.{JoinRequestParts}
-use Rattle.theorems.proofs.read_back.JoinParts.{RequestBack, AcceptBack}
+use Rattle.theorems.proofs.read_back.JoinParts.{RequestBack, requestRecord, AcceptBack, builtFields}
 
--- of what `join-request-back` and `join-accept-back` give
+-- what the calls answer of a built join-request f
+pub record RequestAnswers (key : List ℕ) (j : JoinRequestParts) (f : List ℕ) : Type 0 where
+  pub reads : readOf f ≡ JoinRequest
+  pub passes : joinRequestTest key f ≡ Passes
+  pub fields : joinRequestFields f
+      ≡ requestRecord (j .«app_eui») (j .«dev_eui») (j .«dev_nonce») (joinMic key (joinRequestBody j))
 
-pub request-passes : (key : List ℕ) (j : JoinRequestParts) (f : List ℕ) → RequestBack key j f → joinRequestTest key f ≡ Passes
-request-passes key j f b = request-mic-exactly key f (request-read f (b .reads)) .back (b .mic)
+-- of what `join-request-back` gives
+pub request-answers : (key : List ℕ) (j : JoinRequestParts) (f : List ℕ) → RequestBack key j f → RequestAnswers key j f
+request-answers key j f b =
+    record {
+      reads = b .reads;
+      passes = request-mic-exactly key f (request-read f (b .reads)) .back (b .mic);
+      fields = ap (onRequest (requestFields f) noRequest) (b .reads) ∙ b .fields;
+    }
 
--- the checked opening of a built join-accept accepts it, and leaves the clear bytes and their MIC
-pub accept-opens : (key : List ℕ) (j : JoinAcceptParts) (channels f : List ℕ)
-    → AcceptBack key j channels f (acceptDecrypted key f)
-    → acceptOpenedChecked key f ≡ result Opened (signed key (joinAcceptBody j channels))
-unfolding acceptOpenedChecked acceptTested joinPasses
-accept-opens key j channels f b =
-    let g = acceptDecrypted key f in
-    ap (onAccept (λ n. acceptTested key f) (unopened f)) (b .reads)
-    ∙ ap (λ (t : Bool). pick t (result Opened g) (unopened f (refused 5)))
-    (test-of-same (micOf g) (joinMic key (covered g)) (b .mic))
-    ∙ ap (result Opened) (b .clear)
+-- what the calls answer of a built join-accept f: it opens, checked, and leaves g
+pub record AcceptAnswers (key : List ℕ) (j : JoinAcceptParts) (channels f : List ℕ) : Type 0 where
+  pub reads : readOf f ≡ JoinAccept (joinAcceptLength j)
+  pub opens : acceptOpenedChecked key f ≡ result Opened (signed key (joinAcceptBody j channels))
+  pub clear-reads : readOf (acceptOpenedChecked key f .bytes) ≡ JoinAccept (joinAcceptLength j)
+  pub passes : joinAcceptTest key (acceptOpenedChecked key f .bytes) ≡ Passes
+  pub fields : joinAcceptFields (acceptOpenedChecked key f .bytes) ≡ builtFields j channels
+
+module _ (key : List ℕ) (j : JoinAcceptParts) (channels f : List ℕ) (b : AcceptBack key j channels f (acceptDecrypted key f)) where
+  abbrev g : List ℕ
+  g = acceptDecrypted key f
+
+  -- the checked opening accepts it, and leaves what decryption makes
+  opened : acceptOpenedChecked key f ≡ result Opened g
+  unfolding acceptOpenedChecked acceptTested joinPasses
+  opened =
+      ap (onAccept (λ n. acceptTested key f) (unopened f)) (b .reads)
+      ∙ ap (λ (t : Bool). pick t (result Opened g) (unopened f (refused 5)))
+      (test-of-same (micOf g) (joinMic key (covered g)) (b .mic))
+
+  left : g ≡ acceptOpenedChecked key f .bytes
+  left = sym (ap (λ (r : Result). r .bytes) opened)
+
+  clear-fields : joinAcceptFields g ≡ builtFields j channels
+  clear-fields = ap (onAccept (λ n. acceptFields g) noAccept) (b .clear-reads) ∙ b .fields
+
+  clear-passes : joinAcceptTest key g ≡ Passes
+  clear-passes = accept-mic-exactly key g (joinAcceptLength j) (accept-read g (b .clear-reads)) .back (b .mic)
+
+  -- of what `join-accept-back` gives
+  pub accept-answers : AcceptAnswers key j channels f
+  accept-answers =
+      record {
+        reads = b .reads;
+        opens = opened ∙ ap (result Opened) (b .clear);
+        clear-reads = subst (λ (l : List ℕ). readOf l ≡ JoinAccept (joinAcceptLength j)) left (b .clear-reads);
+        passes = subst (λ (l : List ℕ). joinAcceptTest key l ≡ Passes) left clear-passes;
+        fields = subst (λ (l : List ℕ). joinAcceptFields l ≡ builtFields j channels) left clear-fields;
+      }

@@ -14,6 +14,7 @@ use lib.Seq.{take-at, drop-at, take-all}
 use Rattle.base.specs.Bytes.{pick, at, tab, AreBytes, zeros}
 use Rattle.frame.specs.Refusals.{notRefused}
 use borrow.Author.Tests.{ltb-false}
+use Rattle.base.proofs.Cases.{by-bool}
 use Rattle.base.proofs.Parts.{bytes-append}
 use Rattle.base.proofs.Tab.{tab-at, tab-ext}
 use Rattle.frame.specs.Layout.{mtype, major, micOf}
@@ -21,6 +22,7 @@ use Rattle.frame.specs.Reading.{readOf}
 use Rattle.frame.specs.JoinFields.{requestFields, acceptFields, cfListOf, frequenciesOf, masksOf}
 use Rattle.frame_build.specs.JoinBuilding.{acceptHead, cfListBytes, tooHigh, joinAcceptBody, joinAcceptLength, joinAcceptRefusal, joinRequestBody}
 use Rattle.frame_build.specs.JoinFrames.{signed, joinRequest, joinAccept}
+use Rattle.frame_build.specs.GivenParts.{AcceptGiven, RequestGiven}
 use Rattle.frame_security.specs.JoinAcceptCipher.{acceptDecrypted}
 use Rattle.frame_security.specs.Security.{joinMic}
 use Rattle.frame.specs.declared.join_fields.CfList.{CfList}
@@ -122,6 +124,13 @@ acceptRecord j l fs =
       masks = zeros 9;
     }
 
+-- what went in, as the field call gives it: RxDelay modulo 16; a list filled up with zeros to five, or none
+abbrev listedFields : JoinAcceptParts → List ℕ → Bool → JoinAcceptFields
+listedFields j channels list = acceptRecord j (pick list Frequencies Absent) (pick list (tab 5 (at channels)) (zeros 5))
+
+abbrev pub builtFields : JoinAcceptParts → List ℕ → JoinAcceptFields
+builtFields j channels = listedFields j channels (j .«with_c_f_list»)
+
 module _ (key : List ℕ) (j : JoinAcceptParts) (hn : length (j .«app_nonce») ≡ 3) (hi : length (j .«net_id») ≡ 3) (ha : length (j .«dev_addr») ≡ 4) (channels : List ℕ) where
   body : List ℕ
   body = joinAcceptBody j channels
@@ -178,6 +187,18 @@ module _ (key : List ℕ) (j : JoinAcceptParts) (hn : length (j .«app_nonce») 
       accept-undone key (signed key (joinAcceptBody j channels)) hk
       (bytes-append (joinAcceptBody j channels) (joinMic key (joinAcceptBody j channels)) hb
       (joinMic-byte key (joinAcceptBody j channels) hk hb)) some
+
+  -- and the clear bytes are read as a join-accept too
+  pub clear-reads : readOf (signed key (joinAcceptBody j channels)) ≡ JoinAccept (joinAcceptLength j)
+  unfolding body head
+  clear-reads =
+      reads-accept (signed key (joinAcceptBody j channels)) (joinAcceptLength j)
+      (record {
+        version = ap major written-accept;
+        type = ap mtype written-accept;
+        long = clear-long;
+        either = accept-size (j .«with_c_f_list»);
+      })
 
   -- ---- the fields of the clear bytes
 
@@ -241,12 +262,11 @@ pub record RequestBack (key : List ℕ) (j : JoinRequestParts) (f : List ℕ) : 
       ≡ requestRecord (j .«app_eui») (j .«dev_eui») (j .«dev_nonce») (joinMic key (joinRequestBody j))
   pub mic : micOf f ≡ joinMic key (take (length f - 4) f)
 
-pub join-request-back : (key : List ℕ) (j : JoinRequestParts) → length (j .«app_eui») ≡ 8 → length (j .«dev_eui») ≡ 8
-    → length (j .«dev_nonce») ≡ 2 → RequestBack key j (joinRequest key j)
-join-request-back key j ha hd hn =
+pub join-request-back : (key : List ℕ) (j : JoinRequestParts) → RequestGiven j → RequestBack key j (joinRequest key j)
+join-request-back key j g =
     record {
-      reads = request-reads key j ha hd hn;
-      fields = request-back key j ha hd hn;
+      reads = request-reads key j (g .app) (g .dev) (g .nonce);
+      fields = request-back key j (g .app) (g .dev) (g .nonce);
       mic = signed-mic key (joinRequestBody j);
     }
 
@@ -255,17 +275,13 @@ pub record AcceptBack (key : List ℕ) (j : JoinAcceptParts) (channels f g : Lis
   pub reads : readOf f ≡ JoinAccept (joinAcceptLength j)
   pub clear : g ≡ signed key (joinAcceptBody j channels)
   pub mic : micOf g ≡ joinMic key (take (length g - 4) g)
-  -- RxDelay modulo 16; a list filled up with zeros to five, or none
-  pub listed : j .«with_c_f_list» ≡ true → acceptFields g ≡ acceptRecord j Frequencies (tab 5 (at channels))
-  pub bare : j .«with_c_f_list» ≡ false → acceptFields g ≡ acceptRecord j Absent (zeros 5)
+  pub clear-reads : readOf g ≡ JoinAccept (joinAcceptLength j)
+  pub fields : acceptFields g ≡ builtFields j channels
 
-pub join-accept-back : (key : List ℕ) (j : JoinAcceptParts) → length (j .«app_nonce») ≡ 3 → length (j .«net_id») ≡ 3
-    → length (j .«dev_addr») ≡ 4 → AreBytes key → AreBytes (j .«app_nonce») → AreBytes (j .«net_id») → AreBytes (j .«dev_addr»)
-    → j .«dl_settings» < 256 → j .«rx_delay» < 256 → (channels : List ℕ) (room : ℕ) → joinAcceptRefusal j channels room ≡ 0
+pub join-accept-back : (key : List ℕ) (j : JoinAcceptParts) → AcceptGiven key j → (channels : List ℕ) (room : ℕ)
+    → joinAcceptRefusal j channels room ≡ 0
     → AcceptBack key j channels (joinAccept key j channels) (acceptDecrypted key (joinAccept key j channels))
-join-accept-back key j hn hi ha hk bn bi ba bs br channels room e =
-    let c : acceptDecrypted key (joinAccept key j channels) ≡ signed key (joinAcceptBody j channels) =
-    accept-clear key j hn hi ha channels hk (accept-byte j channels bn bi ba bs br) in
+join-accept-back key j g channels room e =
     record {
       reads = accept-reads key j hn hi ha channels;
       clear = c;
@@ -273,9 +289,27 @@ join-accept-back key j hn hi ha hk bn bi ba bs br channels room e =
           ap micOf c
           ∙ signed-mic key (joinAcceptBody j channels)
           ∙ ap (λ (g : List ℕ). joinMic key (take (length g - 4) g)) (sym c);
-      listed = λ w. ap acceptFields c ∙ accept-back-list key j hn hi ha channels w (low w);
-      bare = λ w. ap acceptFields c ∙ accept-back-none key j hn hi ha channels w;
+      clear-reads = ap readOf c ∙ clear-reads key j hn hi ha channels;
+      fields = ap acceptFields c ∙ by-bool (j .«with_c_f_list») listed bare;
     }
   where
-    low : j .«with_c_f_list» ≡ true → tooHigh channels ≡ false
-    low w = accept-low j channels room e w
+    hn : length (j .«app_nonce») ≡ 3
+    hn = g .nonce .long
+
+    hi : length (j .«net_id») ≡ 3
+    hi = g .net .long
+
+    ha : length (j .«dev_addr») ≡ 4
+    ha = g .address .long
+
+    clear-bytes : AreBytes (joinAcceptBody j channels)
+    clear-bytes = accept-byte j channels (g .nonce .bytes) (g .net .bytes) (g .address .bytes) (g .settings) (g .delay)
+
+    c : acceptDecrypted key (joinAccept key j channels) ≡ signed key (joinAcceptBody j channels)
+    c = accept-clear key j hn hi ha channels (g .key .bytes) clear-bytes
+
+    listed : j .«with_c_f_list» ≡ true → acceptFields (signed key (joinAcceptBody j channels)) ≡ builtFields j channels
+    listed w = accept-back-list key j hn hi ha channels w (accept-low j channels room e w) ∙ sym (ap (listedFields j channels) w)
+
+    bare : j .«with_c_f_list» ≡ false → acceptFields (signed key (joinAcceptBody j channels)) ≡ builtFields j channels
+    bare w = accept-back-none key j hn hi ha channels w ∙ sym (ap (listedFields j channels) w)

@@ -26,7 +26,7 @@ returns-3 c =
     let start = tested .before .before .before .before in
     let a = start .args in
     let parts = at-data-parts .data-parts .ensures in
-    made (at-build-data .build-data .ensures)
+    made (at-build-data .build-data .ensures .0)
     (ap (λ (d : DataParts). dataRefusal d (now (a .commands)) (now (a .payload)) (length (now (a .out)))) parts
     ∙ sym (of-data _ _ _ _ _ (tested .if1 .left) (tested2 .if2 .left)))
     (ap (λ (d : DataParts). dataFrame (now (a .nwk-skey)) (now (a .app-skey)) d (now (a .commands)) (now (a .payload))) parts)

@@ -18,7 +18,7 @@ returns c =
     let start = at-accept-parts .before .before .before .before .before in
     let a = start .args in
     let parts = at-accept-parts .accept-parts .ensures in
-    made (at-build-join-accept .build-join-accept .ensures)
+    made (at-build-join-accept .build-join-accept .ensures .0)
     (ap (λ (j : JoinAcceptParts). joinAcceptRefusal j (now (a .channels)) (length (now (a .out)))) parts)
     (ap (λ (j : JoinAcceptParts). joinAccept (now (a .app-key)) j (now (a .channels))) parts) (c .built-answer .ensures)
 

@@ -6,14 +6,15 @@ use native.Mathlib.Omega.{arith}
 use borrow.Author.Needs.{needs}
 use denote.Ref.{now}
 use lib.ListN.{length}
+use Rattle.frame_build.specs.GivenParts.{DataGiven}
 use Rattle.frame_build.proofs.DataRefusals.{Roomy, roomy}
 use Rattle.frame_security.proofs.SealingLaws.{seal-inside}
 use Rattle.frame_build.proofs.DataBuiltLaws.{not-built, built, sealed-built}
 use Rattle.frame_build.proofs.creator.data_frame.build_data.Statement.{statement}
 use Rattle.frame_build.proofs.creator.data_frame.build_data.Tie as tie
 
-sizes : (c : tie.Start) → length (c .args .d .«dev_addr») ≡ 4
-sizes c = search needs
+sizes : (c : tie.Start) → DataGiven (c .args .d)
+sizes c = record { address = search needs }
 
 -- what is known once nothing is refused
 room : (c : tie.Else1)
@@ -21,10 +22,10 @@ room : (c : tie.Else1)
     (now (c .before .before .before .before .before .args .payload)) (length (now (c .before .before .before .before .before .args .out)))
 room c =
     let start = c .before .before .before .before .before in
-    roomy (start .args .d) (sizes start) _ _ _ (sym (c .before .data-refusal .ensures) ∙ c .if1 .left)
+    roomy (start .args .d) (sizes start .address) _ _ _ (sym (c .before .data-refusal .ensures) ∙ c .if1 .left)
 
 returns : tie.Need-returns
-returns c = not-built (c .before .data-refusal .ensures) (c .if1 .taken)
+returns c = (not-built (c .before .data-refusal .ensures) (c .if1 .taken), sizes (c .before .before .before .before .before))
 
 fill-requires : tie.Need-fill-requires
 fill-requires c κs = sym (c .before .before .data-refusal .ensures) ∙ c .before .if1 .left
@@ -46,12 +47,14 @@ returns-2 c =
     let filled = body .before .before .before in
     let tested = filled .before .before in
     let k = room tested in
-    let end = filled .fill .result in
-    built (tested .before .data-refusal .ensures) (tested .if1 .left)
-    (sealed-built _ _ _ _ _ _ _ _ _ _ (filled .fill .ensures) (ap (λ (n : ℕ). end - n) (body .body-length .ensures)) (k .within)
-    (sealed .seal .ensures
-    ∙ seal-inside _ _ _ _ _ _ (omega (arith, k, filled .fill .ensures .next, body .body-length .ensures))
-    (omega (arith, body .body-length .ensures)) (omega (arith, k, filled .fill .ensures .next, filled .fill .kept))))
+    let end = filled .fill .result in (
+      built (tested .before .data-refusal .ensures) (tested .if1 .left)
+          (sealed-built _ _ _ _ _ _ _ _ _ _ (filled .fill .ensures) (ap (λ (n : ℕ). end - n) (body .body-length .ensures)) (k .within)
+          (sealed .seal .ensures
+          ∙ seal-inside _ _ _ _ _ _ (omega (arith, k, filled .fill .ensures .next, body .body-length .ensures))
+          (omega (arith, body .body-length .ensures)) (omega (arith, k, filled .fill .ensures .next, filled .fill .kept)))),
+      sizes (tested .before .before .before .before .before),
+    )
 
 pub build-data-spec : {M : Type 1} → statement M
 build-data-spec =

@@ -1,0 +1,103 @@
+-- What is built reads back, said of what the builders answer: of every outcome that a builder's contract allows. Where the answer
+-- is a frame of n bytes, the first n bytes of the output are read, tested, opened and taken apart as what went in. That the
+-- building was accepted is the one premise; what the types of the arguments give is part of the contract.
+-- Assumes nothing.
+use mathlib.Core.Path.{_≡_, refl, sym, ap, _∙_, subst}
+use mathlib.Core.Bool.{Bool, true, false}
+use mathlib.Core.List.{List, _++_}
+use Prim.Native.Nat.{ℕ}
+use native.Mathlib.Omega.{arith}
+use denote.Ref.{now}
+use lib.Dec.{eqb}
+use lib.ListN.{length, take, drop}
+use lib.Seq.{take-at}
+use borrow.Author.Tests.{eqb-true}
+use Rattle.base.specs.Bytes.{pick}
+use Rattle.base.proofs.Cases.{by-bool}
+use Rattle.frame.specs.Refusals.{refused}
+use Rattle.frame_build.specs.DataFrames.{Builds, builtOf, outOf}
+use Rattle.frame_build.specs.declared.creator.Built.{Built}
+use Rattle.frame_build.specs.declared.creator.Built.the-variants.{Frame, Refused}
+use Rattle.frame_build.specs.declared.creator.data_frame.DataParts.{DataParts}
+use Rattle.frame_build.proofs.creator.data_frame.build_data.Reads as build-data
+use Rattle.frame_build.proofs.creator.join.build_join_request.Reads as build-join-request
+use Rattle.frame_build.proofs.creator.join.build_join_accept.Reads as build-join-accept
+use Rattle.theorems.proofs.read_back.DataParts.{DataBack, data-back}
+use Rattle.theorems.proofs.read_back.DataOpens.{DataOpens, data-opens}
+use Rattle.theorems.proofs.read_back.JoinParts.{join-request-back, join-accept-back}
+use Rattle.theorems.proofs.read_back.JoinOpens.{RequestAnswers, request-answers, AcceptAnswers, accept-answers}
+
+-- a claim holds of every outcome of a call: of its arguments, its answer and what it was lent as it returns
+abbrev pub Always : {K : Type 0} {D R S : K → Type 0} → ((κs : K) → D κs → R κs → S κs → Type 0)
+    → ((κs : K) → D κs → R κs → S κs → Type 0)
+    → Type 0
+Always {K} {D} {R} {S} post claim = (κs : K) (a : D κs) (r : R κs) (s : S κs) → post κs a r s → claim κs a r s
+
+-- ---- an accepted building
+
+abbrev lengthOf : Built → ℕ
+lengthOf (Frame n) = n
+lengthOf (Refused r) = 0
+
+-- nothing was refused, and the frame stands at the start of the output
+pub built-frame : (refusal : ℕ) (frame l e : List ℕ) (r : Built) → Builds refusal frame l r e → (n : ℕ) → r ≡ Frame n
+    → (refusal ≡ 0) × (take n e ≡ frame)
+built-frame refusal frame l e r b n q = by-bool (eqb refusal 0) taken not-taken
+  where
+    taken : eqb refusal 0 ≡ true → (refusal ≡ 0) × (take n e ≡ frame)
+    taken t =
+        let same : Frame n ≡ Frame (length frame) =
+        sym q ∙ b .answer ∙ ap (λ (u : Bool). pick u (Frame (length frame)) (Refused (refused refusal))) t in
+        let out : e ≡ frame ++ drop (length frame) l =
+        b .output ∙ ap (λ (u : Bool). pick u (frame ++ drop (length frame) l) l) t in
+        (eqb-true refusal 0 t, ap (take n) out ∙ take-at frame (drop (length frame) l) n (sym (ap lengthOf same)))
+
+    not-taken : eqb refusal 0 ≡ false → (refusal ≡ 0) × (take n e ≡ frame)
+    not-taken t =
+        let other : Frame n ≡ Refused (refused refusal) =
+        sym q ∙ b .answer ∙ ap (λ (u : Bool). pick u (Frame (length frame)) (Refused (refused refusal))) t in
+        let z : _≡_ {A = ℕ} 0 1 = cc in
+        absurd (omega arith)
+
+-- ---- data frames: parts, commands, payload, network key, application key, output
+
+pub record DataAnswers (nwk app : List ℕ) (d : DataParts) (commands body f : List ℕ) : Type 0 where
+  pub back : DataBack nwk app d commands body f
+  pub opens : DataOpens nwk app d commands body f
+
+pub data-built : Always build-data.Learnt
+    (λ κs a r s.
+    (n : ℕ) → r ≡ Frame n
+    → DataAnswers (a .1 .1 .1 .0) (a .1 .1 .1 .1 .0) (a .0) (now (a .1 .0)) (now (a .1 .1 .0))
+    (take n (now (s .1 .1 .1 .1 .1 .0))))
+data-built κs a r s p n q =
+    let d = a .0 in
+    let commands = now (a .1 .0) in
+    let body = now (a .1 .1 .0) in
+    let nwk = a .1 .1 .1 .0 in
+    let app = a .1 .1 .1 .1 .0 in
+    let b = built-frame _ _ _ _ r (p .0) n q in
+    let back = data-back nwk app d (p .1) commands body _ (b .0) in
+    subst (λ (f : List ℕ). DataAnswers nwk app d commands body f) (sym (b .1))
+    (record { back = back; opens = data-opens nwk app d commands body _ back })
+
+-- ---- join-requests: parts, AppKey, output
+
+pub join-request-built : Always build-join-request.Learnt
+    (λ κs a r s. (n : ℕ) → r ≡ Frame n → RequestAnswers (a .1 .0) (a .0) (take n (now (s .1 .1 .0))))
+join-request-built κs a r s p n q =
+    let b = built-frame _ _ _ _ r (p .0) n q in
+    subst (λ (f : List ℕ). RequestAnswers (a .1 .0) (a .0) f) (sym (b .1))
+    (request-answers (a .1 .0) (a .0) _ (join-request-back (a .1 .0) (a .0) (p .1)))
+
+-- ---- join-accepts: parts, channels, AppKey, output
+
+pub join-accept-built : Always build-join-accept.Learnt
+    (λ κs a r s.
+    (n : ℕ) → r ≡ Frame n → AcceptAnswers (a .1 .1 .0) (a .0) (now (a .1 .0)) (take n (now (s .1 .1 .1 .0))))
+join-accept-built κs a r s p n q =
+    let key = a .1 .1 .0 in
+    let channels = now (a .1 .0) in
+    let b = built-frame _ _ _ _ r (p .0) n q in
+    subst (λ (f : List ℕ). AcceptAnswers key (a .0) channels f) (sym (b .1))
+    (accept-answers key (a .0) channels _ (join-accept-back key (a .0) (p .1) channels _ (b .0)))
