@@ -9,7 +9,8 @@ fn main() {
     let mut frame = [0u8; 256];
     let n = io::read_full(STDIN_FILENO, &mut frame);
     let mut out = [0u8; TEXT_ROOM];
-    let length = show_text::describe(&frame[..n], &mut out);
+    let text = show_text::describe(&frame[..n], &mut out);
+    let length = text.length;
     if !io::write_all(STDOUT_FILENO, &out[..length]) {
         io::write_all(STDERR_FILENO, b"show: the output could not be written\n");
     }

@@ -18,7 +18,8 @@ fn record_length(low: u8, high: u8) -> usize
 // The text of a frame; whether it was written whole.
 fn show_frame(frame: &[u8]) -> bool {
     let mut out = [0u8; TEXT_ROOM];
-    let n = show_text::describe(frame, &mut out);
+    let text = show_text::describe(frame, &mut out);
+    let n = text.length;
     io::write_all(STDOUT_FILENO, &out[..n]) && io::write_all(STDOUT_FILENO, b"--\n")
 }
 

@@ -8,6 +8,7 @@ use lib.ListN.{length, drop}
 use Rattle.base.specs.Bytes.{pick}
 use Rattle.frame.specs.Layout.{devAddr, micOf, appEui, devEui, devNonce}
 use Rattle.frame.specs.Reading.{readOf}
+use Rattle.frame.specs.Refusals.{refused, notRefused}
 use Rattle.frame.specs.declared.parser.FPort.{FPort}
 use Rattle.frame.specs.declared.parser.FPort.the-variants.{Absent, Port}
 use Rattle.frame.specs.declared.parser.FrmPayload.{FrmPayload}
@@ -15,6 +16,7 @@ use Rattle.frame.specs.declared.parser.FrmPayload.the-variants.{Nothing, Data a
 use Rattle.frame.specs.declared.parser.DataFrame.{DataFrame}
 use Rattle.frame.specs.declared.parser.Reading.{Reading}
 use Rattle.frame.specs.declared.parser.Reading.the-variants.{JoinRequest, JoinAccept, Data, Refused}
+use Rattle.show_text.specs.declared.Description.{Description}
 
 -- ---- digits
 
@@ -174,9 +176,12 @@ textOf f = textOfReading f (readOf f)
 abbrev pub textRoom : ℕ
 textRoom = 128
 
--- what is answered, and the buffer afterwards: the text at its start, and nothing where it is too short
-unfoldable pub describedLength : List ℕ → List ℕ → ℕ
-describedLength f out = pick (ltb (length out) textRoom) 0 (length (textOf f))
+-- what is answered: the text's length, or 7 where the buffer is too short
+unfoldable pub describedOf : List ℕ → List ℕ → Description
+describedOf f out =
+    pick (ltb (length out) textRoom) (record { refusal = refused 7; length = 0 })
+    (record { refusal = notRefused; length = length (textOf f) })
 
+-- the buffer afterwards: the text at its start, and nothing changed where it is too short
 unfoldable pub describedIn : List ℕ → List ℕ → List ℕ
 describedIn f out = pick (ltb (length out) textRoom) out (textOf f ++ drop (length (textOf f)) out)

@@ -7,7 +7,7 @@ ghost use Rattle.base.specs.Bytes.{part};
 ghost use Rattle.base.specs.Storing.{Put};
 ghost use Rattle.frame.specs.Reading.{dataOf, readOf};
 ghost use Rattle.frame.specs.Conditions.{IsData};
-ghost use Rattle.show_text.specs.Text.{digitOf, hexOf, digitCount, fiveDigits, decimalOf, typeWord, newline, hexLine, numberLine, placeLine, Spans, payloadLine, portLine, headerText, restText, dataText, euisText, joinRequestText, joinAcceptText, textOf, describedLength, describedIn};
+ghost use Rattle.show_text.specs.Text.{digitOf, hexOf, digitCount, fiveDigits, decimalOf, typeWord, newline, hexLine, numberLine, placeLine, Spans, payloadLine, portLine, headerText, restText, dataText, euisText, joinRequestText, joinAcceptText, textOf, describedOf, describedIn};
 use base::storing::wide;
 use frame::packet_length::APP_EUI_AT;
 use frame::packet_length::DEV_ADDR_AT;
@@ -23,9 +23,17 @@ use frame::parser::FPort;
 use frame::parser::FrmPayload;
 use frame::parser::Reading;
 use frame::parser::read;
+use frame::refusals::BUFFER_TOO_SHORT;
+use frame::refusals::Refusal;
 
 // A buffer of so many bytes has room for every text.
 pub const TEXT_ROOM: usize = 128;
+
+// A text that was written: how many bytes it has, beside the refusal.
+pub struct Description {
+    pub refusal: Refusal,
+    pub length: usize,
+}
 
 // The digits of hex and, its first ten, of decimal.
 const DIGITS: [u8; 16] = [
@@ -295,15 +303,28 @@ fn put_text(out: &mut [u8], frame: &[u8], reading: Reading) -> usize
     }
 }
 
-// Writes the text of the frame to the start of out and answers its length. An out that is shorter than TEXT_ROOM stays
-// as it is, and the answer is 0.
-pub fn describe(frame: &[u8], out: &mut [u8]) -> usize
-    ensures { λ r. ⌜ r ≡ describedLength (now (frame .entry)) (now (out .entry)) ⌝ }
+// Writes the text of the frame to the start of out and answers its length. An out that is shorter than TEXT_ROOM is refused by 7
+// and stays as it is.
+pub fn describe(frame: &[u8], out: &mut [u8]) -> Description
+    ensures { λ r. ⌜ r ≡ describedOf (now (frame .entry)) (now (out .entry)) ⌝ }
     ensures { λ r. ⌜ now (out .exit) ≡ describedIn (now (frame .entry)) (now (out .entry)) ⌝ }
 {
     if out.len() < TEXT_ROOM {
-        return 0;
+        return Description {
+            refusal: Refusal {
+                number: BUFFER_TOO_SHORT,
+                place: 0,
+            },
+            length: 0,
+        };
     }
     let reading = read(frame);
-    put_text(out, frame, reading)
+    let end = put_text(out, frame, reading);
+    Description {
+        refusal: Refusal {
+            number: 0,
+            place: 0,
+        },
+        length: end,
+    }
 }
