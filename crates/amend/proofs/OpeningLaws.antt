@@ -2,7 +2,7 @@
 -- MIC from the last of them is that of the frame, and the bytes that are stored are the frame with zeros behind.
 -- Assumes nothing.
 use mathlib.Core.Path.{_≡_, sym, ap, ap₂, _∙_, subst}
-use mathlib.Core.Bool.{Bool}
+use mathlib.Core.Bool.{Bool, true, false}
 use mathlib.Core.List.{List, [], _∷_, _++_}
 use Prim.Native.Nat.{ℕ, _+_, _-_, _*_, _%_, _≤_, _<_}
 use native.Mathlib.Omega.{arith}
@@ -91,24 +91,33 @@ signed-mic nwk g counter n lo hi inside =
     signed-right ks b g n (chainsOf ks m (lastPlace n)) (micBlock-long (take n g) counter) lo
     inside (table-right ks m (lastPlace n) (lastPlace n) (omega arith) (omega arith))
 
--- the same from an opened state
-state-mic : (f nwk app : List ℕ) (counter : ℕ) (s : Open) → 12 ≤ length f → length f ≤ 255
-    → s ≡ openedOf f nwk app counter
-    → signedFrom (s .«nwk_schedule») f (length f - 4) (s .chains) ≡ dataMic nwk (covered f) counter
-unfolding openedOf
-state-mic f nwk app counter s lo hi e =
-    ap (λ (o : Open). signedFrom (o .«nwk_schedule») f (length f - 4) (o .chains)) e
-    ∙ signed-mic nwk f counter (length f - 4) (omega arith) (omega arith) (omega arith)
+-- the test that the code makes, of the MIC from its own chain values and the frame's last four bytes
+pub tested-is : (f nwk : List ℕ) (counter : ℕ) {ks chains m g : List ℕ} {t : Bool} → 12 ≤ length f → length f ≤ 255
+    → ks ≡ keyExpansion nwk → chains ≡ chainsOf ks (message (covered f) counter) (lastPlace (length f - 4))
+    → m ≡ signedFrom ks f (length f - 4) chains → g ≡ micOf f → t ≡ sameBytes m g
+    → t ≡ sameBytes (dataMic nwk (covered f) counter) (micOf f)
+tested-is f nwk counter lo hi hk hc hm hg ht =
+    let n = length f - 4 in
+    ht
+    ∙ ap₂ sameBytes
+    (hm
+    ∙ ap₂ (λ (k c : List ℕ). signedFrom k f n c) hk
+    (hc ∙ ap (λ (k : List ℕ). chainsOf k (message (covered f) counter) (lastPlace n)) hk)
+    ∙ signed-mic nwk f counter n (omega arith) (omega arith) (omega arith))
+    hg
 
--- the answer by the state, the two MICs and the test that the code computes
-pub checked-is : (f nwk app : List ℕ) (counter : ℕ) (s : Open) {m g : List ℕ} {t : Bool} → 12 ≤ length f → length f ≤ 255
-    → s ≡ openedOf f nwk app counter → m ≡ signedFrom (s .«nwk_schedule») f (length f - 4) (s .chains) → g ≡ micOf f
-    → t ≡ sameBytes m g → pick t (acceptedOpening s) (refusedOpening (refused 5)) ≡ openChecked f nwk app counter
-unfolding openChecked
-checked-is f nwk app counter s lo hi made hm hg ht =
-    ap₂ (λ (b : Bool) (o : Open). pick b (acceptedOpening o) (refusedOpening (refused 5)))
-    (ht ∙ ap₂ sameBytes (hm ∙ state-mic f nwk app counter s lo hi made) hg)
-    made
+-- the answer by that test: the state, or 5
+module _ (f nwk app : List ℕ) (counter : ℕ) {t : Bool} (e : t ≡ sameBytes (dataMic nwk (covered f) counter) (micOf f)) where
+  pub checked-opens : t ≡ true → {s : Open} → s ≡ openedOf f nwk app counter → acceptedOpening s ≡ openChecked f nwk app counter
+  unfolding openChecked
+  checked-opens h made =
+      ap acceptedOpening made
+      ∙ ap (λ (b : Bool). pick b (acceptedOpening (openedOf f nwk app counter)) (refusedOpening (refused 5))) (sym h ∙ e)
+
+  pub checked-refuses : t ≡ false → refusedOpening (refused 5) ≡ openChecked f nwk app counter
+  unfolding openChecked
+  checked-refuses h =
+      ap (λ (b : Bool). pick b (acceptedOpening (openedOf f nwk app counter)) (refusedOpening (refused 5))) (sym h ∙ e)
 
 -- the frame stored at the front of 255 zeros
 pub stored-frame : (f : List ℕ) → length f ≤ 255 → sets (replicate {A = ℕ} 255 0) 0 f ≡ held f

@@ -60,13 +60,14 @@ pub(crate) fn carry_on(
 }
 
 // The MIC of the first `n` bytes of the frame, from the last chain value on.
-pub(crate) fn sign_from(schedule: [u8; 176], frame: &[u8], n: usize, chains: &[u8]) -> [u8; 4]
+pub(crate) fn sign_from(schedule: &[u8; 176], frame: &[u8], n: usize, chains: &[u8]) -> [u8; 4]
     requires { ⌜ (0 < n) × (n ≤ length (now frame)) × (16 * lastPlace n + 16 ≤ length (now chains)) ⌝ }
-    ensures { λ r. ⌜ r ≡ signedFrom schedule (now (frame .entry)) n (now (chains .entry)) ⌝ }
+    ensures { λ r. ⌜ r ≡ signedFrom (now (schedule .entry)) (now (frame .entry)) n (now (chains .entry)) ⌝ }
 {
     let start = 16 * ((n - 1) / 16);
     let chain = block_at(chains, start);
-    let tag = cmac::Cmac::resume(schedule, chain)
+    let expanded = *schedule;
+    let tag = cmac::Cmac::resume(expanded, chain)
         .update(&frame[start..n])
         .finish();
     mic_of(tag)
@@ -101,12 +102,12 @@ fn payload_mask(
 }
 
 // The frame and its chain values after byte `p` of it was changed, signed anew; `n` bytes are ahead of the MIC.
-pub(crate) fn resign(schedule: [u8; 176], frame: &mut [u8], chains: &mut [u8], n: usize, p: usize)
+pub(crate) fn resign(schedule: &[u8; 176], frame: &mut [u8], chains: &mut [u8], n: usize, p: usize)
     requires { ⌜ (p < n) × (n + 4 ≤ length (now frame)) × (length (now chains) ≡ 256) × (n ≤ 251) ⌝ }
-    ensures { λ _. ⌜ now (chains .exit) ≡ carried schedule (now (frame .entry)) n p (now (chains .entry)) ⌝ }
-    ensures { λ _. ⌜ now (frame .exit) ≡ resigned schedule (now (frame .entry)) n p (now (chains .entry)) ⌝ }
+    ensures { λ _. ⌜ now (chains .exit) ≡ carried (now (schedule .entry)) (now (frame .entry)) n p (now (chains .entry)) ⌝ }
+    ensures { λ _. ⌜ now (frame .exit) ≡ resigned (now (schedule .entry)) (now (frame .entry)) n p (now (chains .entry)) ⌝ }
 {
-    carry_on(&schedule, frame, chains, p / 16, (n - 1) / 16);
+    carry_on(schedule, frame, chains, p / 16, (n - 1) / 16);
     let mic = sign_from(schedule, frame, n, chains);
     put(frame, n, &mic);
 }
@@ -141,7 +142,7 @@ impl Open {
         let count = payload_length(frame[FCTRL_AT], length);
         let stream = payload_mask(&nwk_schedule, &app_schedule, &frame, count, counter, offset);
         frame[p] = value ^ stream;
-        resign(nwk_schedule, &mut frame, &mut chains, length - 4, p);
+        resign(&nwk_schedule, &mut frame, &mut chains, length - 4, p);
         Open {
             frame,
             length,

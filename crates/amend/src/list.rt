@@ -133,7 +133,7 @@ fn amended_list(state: Open, amendments: &[u32]) -> Open
     let end = length - MIC_LEN;
     let low = lowest_place(amendments, start, end - 1);
     store_all(&nwk, &app, count, counter, start, &mut frame, amendments);
-    resign(nwk, &mut frame, &mut chains, end, low);
+    resign(&nwk, &mut frame, &mut chains, end, low);
     Open {
         frame,
         length,

@@ -4,7 +4,7 @@ ghost use Prim.Native.Nat.{_-_, _≤_};
 ghost use lib.ListN.{length};
 ghost use Rattle.frame_security.specs.Security.{covered, message};
 ghost use Rattle.amend.specs.Amending.{lastPlace};
-ghost use Rattle.amend.specs.OpenFrame.{chainsOf, openedOf, nothing, refusedOpening, openChecked, openOf};
+ghost use Rattle.amend.specs.OpenFrame.{chainsOf, nothing, refusedOpening, openChecked, openOf};
 use crate::amending::Open;
 use crate::amending::carry_on;
 use crate::amending::sign_from;
@@ -65,37 +65,27 @@ fn chains_of(schedule: &[u8; 176], frame: &[u8], counter: u32) -> [u8; 256]
     chains
 }
 
-// The state of an open frame.
-fn open_state(frame: &[u8], nwk_skey: [u8; 16], app_skey: [u8; 16], counter: u32) -> Open
-    requires { ⌜ (12 ≤ length (now frame)) × (length (now frame) ≤ 255) ⌝ }
-    ensures { λ r. ⌜ r ≡ openedOf (now (frame .entry)) «nwk_skey» «app_skey» counter ⌝ }
-{
-    let nwk_schedule = aes::key_expansion::expand(nwk_skey);
-    let app_schedule = aes::key_expansion::expand(app_skey);
-    let chains = chains_of(&nwk_schedule, frame, counter);
-    let mut held = [0u8; 255];
-    put(&mut held, 0, frame);
-    Open {
-        frame: held,
-        length: frame.len(),
-        nwk_schedule,
-        app_schedule,
-        counter,
-        chains,
-    }
-}
-
 // A data frame whose counter is right: 5 where its MIC is not that of its chain values.
 fn open_checked(frame: &[u8], nwk_skey: [u8; 16], app_skey: [u8; 16], counter: u32) -> Opened
     requires { ⌜ (12 ≤ length (now frame)) × (length (now frame) ≤ 255) ⌝ }
     ensures { λ r. ⌜ r ≡ openChecked (now (frame .entry)) «nwk_skey» «app_skey» counter ⌝ }
 {
-    let state = open_state(frame, nwk_skey, app_skey, counter);
-    let schedule = state.nwk_schedule;
-    let chains = state.chains;
-    let mic = sign_from(schedule, frame, frame.len() - MIC_LEN, &chains);
+    let nwk_schedule = aes::key_expansion::expand(nwk_skey);
+    let chains = chains_of(&nwk_schedule, frame, counter);
+    let mic = sign_from(&nwk_schedule, frame, frame.len() - MIC_LEN, &chains);
     let given = four_at(frame, frame.len() - MIC_LEN);
     if same_mic(mic, given) {
+        let app_schedule = aes::key_expansion::expand(app_skey);
+        let mut held = [0u8; 255];
+        put(&mut held, 0, frame);
+        let state = Open {
+            frame: held,
+            length: frame.len(),
+            nwk_schedule,
+            app_schedule,
+            counter,
+            chains,
+        };
         return Opened {
             refusal: Refusal {
                 number: 0,

@@ -11,13 +11,13 @@ returns : tie.Need-returns
 returns c =
     let at-sign-from = c .before .before .before .before .before in
     let at-carry-on = at-sign-from .before .before .before .before .before in
-    let start = at-carry-on .before .before .before .before .before .before in
+    let start = at-carry-on .before .before .before .before .before in
     let args = start .args in
     let f = args .frame .now in
     let carried = at-carry-on .carry-on .ensures in (
       carried,
       c .before .before .put .ensures .list
-          ∙ ap (sets f (args .n)) (at-sign-from .sign-from .ensures ∙ ap (signedFrom (args .t1) f (args .n)) carried),
+          ∙ ap (sets f (args .n)) (at-sign-from .sign-from .ensures ∙ ap (signedFrom (args .schedule .now) f (args .n)) carried),
     )
 
 pub resign-spec : {M : Type 1} → statement M

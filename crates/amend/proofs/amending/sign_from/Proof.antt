@@ -14,7 +14,7 @@ use Rattle.amend.proofs.amending.sign_from.Tie as tie
 returns : tie.Need-returns
 unfolding signedFrom
 returns c =
-    let args = c .before .before .before .before .before .before .before .before .args in
+    let args = c .before .before .before .before .before .before .before .before .before .args in
     let rest = part (16 * lastPlace (args .n)) (args .n - 16 * lastPlace (args .n)) (args .frame .now) in
     c .mic-of .ensures
     ∙ ap (take 4)
@@ -22,7 +22,7 @@ returns c =
     ∙ ap finished
     (c .before .before .update .ensures
     ∙ ap (λ (s : Cmac). absorbed s rest)
-    (c .before .before .before .before .resume .ensures ∙ ap (resumed (args .schedule)) (c .before .before .before .before .before .block-at .ensures ∙ run-inside 16 (args .chains .now) (16 * lastPlace (args .n)) (search needs)))))
+    (c .before .before .before .before .resume .ensures ∙ ap (resumed (args .schedule .now)) (c .before .before .before .before .before .before .block-at .ensures ∙ run-inside 16 (args .chains .now) (16 * lastPlace (args .n)) (search needs)))))
 
 pub sign-from-spec : {M : Type 1} → statement M
 sign-from-spec =

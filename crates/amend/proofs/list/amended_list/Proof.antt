@@ -41,7 +41,7 @@ store-all-requires c κs =
 
 resign-requires : tie.Need-resign-requires
 resign-requires c κs =
-    let stored = c .before .before .before in
+    let stored = c .before .before .before .before in
     let lowered = stored .before .before .before .before in
     let placed = lowered .before .before in
     let begun = placed .before .before .before .before .before .before in
@@ -55,7 +55,7 @@ resign-requires c κs =
 returns : tie.Need-returns
 returns c =
     let signed = c .before .before in
-    let stored = signed .before .before .before .before in
+    let stored = signed .before .before .before .before .before in
     let lowered = stored .before .before .before .before in
     let counted = lowered .before in
     let placed = counted .before in

@@ -1,56 +1,67 @@
--- `open_checked` compares the MIC of the chain values with the frame's. Assumes nothing.
-use mathlib.Core.Bool.{Bool}
-use mathlib.Core.Path.{_≡_, sym, ap, _∙_}
+-- `open_checked` compares the MIC of the chain values with the frame's, and keeps the frame, both keys and the chain values
+-- where they are the same. Assumes nothing.
+use mathlib.Core.Path.{_≡_, _∙_}
 use native.Mathlib.Omega.{arith}
 use Rattle.frame.proofs.LayoutLaws.{mic-run}
 use borrow.Author.Needs.{needs}
 use lib.ListN.{length}
-use Rattle.base.specs.Bytes.{pick}
-use Rattle.frame.specs.Refusals.{refused}
-use Rattle.amend.specs.OpenFrame.{refusedOpening, acceptedOpening, openChecked}
-use Rattle.amend.proofs.OpeningLaws.{checked-is}
+use Rattle.frame_security.specs.Mic.{sameBytes}
+use Rattle.frame_security.specs.Security.{covered, dataMic}
+use Rattle.frame.specs.Layout.{micOf}
+use Rattle.amend.proofs.OpeningLaws.{tested-is, checked-opens, checked-refuses, stored-frame, opened-is}
 use Rattle.amend.proofs.opening.open_checked.Statement.{statement}
 use Rattle.amend.proofs.opening.open_checked.Tie as tie
 
 sign-from-requires : tie.Need-sign-from-requires
 sign-from-requires c κs =
-    let long : length (c .before .before .before .open-state .result .chains) ≡ 256 = search needs in
+    let long : length (c .before .before .chains-of .result) ≡ 256 = search needs in
     (omega arith, omega arith, omega arith)
 
--- the answer by the test
-checked : (c : tie.After-same-mic) →
-    let args = c .before .before .before .before .before .before .before .before .args in
-    pick (c .same-mic .result) (acceptedOpening (c .before .before .before .before .before .before .open-state .result)) (refusedOpening (refused 5))
-    ≡ openChecked (args .frame .now) (args .nwk-skey) (args .app-skey) (args .counter)
-checked c =
-    let start = c .before .before .before .before .before .before .before .before in
+-- what the test says
+tested : (c : tie.After-same-mic) →
+    let args = c .before .before .before .before .before .before .before .before .before .args in
+    c .same-mic .result ≡ sameBytes (dataMic (args .nwk-skey) (covered (args .frame .now)) (args .counter)) (micOf (args .frame .now))
+tested c =
+    let signed = c .before .before in
+    let chained = signed .before .before .before in
+    let expanded = chained .before .before in
+    let start = expanded .before .before in
     let args = start .args in
-    let made = c .before .before .before .before .before .before .open-state in
-    checked-is (args .frame .now) (args .nwk-skey) (args .app-skey) (args .counter) (made .result) (start .pre .0) (start .pre .1)
-    (made .ensures)
-    (c .before .before .sign-from .ensures)
+    tested-is (args .frame .now) (args .nwk-skey) (args .counter) (start .pre .0) (start .pre .1) (expanded .expand .ensures)
+    (chained .chains-of .ensures) (signed .sign-from .ensures)
     (c .before .four-at .ensures ∙ mic-run (args .frame .now) (omega (arith, start .pre)))
     (c .same-mic .ensures)
 
 returns : tie.Need-returns
 returns c =
-    let made = c .before .before .before .before .before .before .before .open-state .result in
-    sym (ap (λ (t : Bool). pick t (acceptedOpening made) (refusedOpening (refused 5))) (c .if1 .taken)) ∙ checked (c .before)
+    let stored = c .before in
+    let expanded2 = stored .before .before in
+    let passed = expanded2 .before in
+    let chained = passed .before .before .before .before .before .before in
+    let expanded = chained .before .before in
+    let start = expanded .before .before in
+    let args = start .args in
+    let f = args .frame .now in
+    checked-opens f (args .nwk-skey) (args .app-skey) (args .counter) (tested (passed .before)) (passed .if1 .taken)
+    (opened-is f (args .nwk-skey) (args .app-skey) (args .counter) (stored .put .ensures .list ∙ stored-frame f (start .pre .1))
+    (expanded .expand .ensures) (expanded2 .expand2 .ensures) (chained .chains-of .ensures))
 
 returns-2 : tie.Need-returns-2
 returns-2 c =
-    let made = c .before .before .before .before .before .before .before .before .open-state .result in
+    let failed = c .before in
+    let args = failed .before .before .before .before .before .before .before .before .before .before .args in
     c .not-opened .ensures
-    ∙ sym (ap (λ (t : Bool). pick t (acceptedOpening made) (refusedOpening (refused 5))) (c .before .if1 .left))
-    ∙ checked (c .before .before)
+    ∙ checked-refuses (args .frame .now) (args .nwk-skey) (args .app-skey) (args .counter) (tested (failed .before))
+    (failed .if1 .left)
 
 pub open-checked-spec : {M : Type 1} → statement M
 open-checked-spec =
     tie.close
     (tie.spec
-    (λ c κs. search needs) (λ c. search needs) (λ c. search needs)
+    (λ c κs. search needs) (λ c κs. search needs) (λ c. search needs) (λ c. search needs)
     sign-from-requires
-    (λ c. search needs) (λ c κs. search needs) (λ c κs. search needs)
+    (λ c. search needs) (λ c κs. search needs) (λ c κs. search needs) (λ c κs. search needs) (λ c. search needs)
+    (λ c κs. search needs)
     returns
     (λ c κs. search needs)
     returns-2)

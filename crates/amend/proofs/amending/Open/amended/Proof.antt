@@ -13,7 +13,7 @@ use Rattle.amend.proofs.amending.Open.amended.Tie as tie
 
 resign-requires : tie.Need-resign-requires
 resign-requires c κs =
-    let placed = c .before .before .before .before .before .before .before in
+    let placed = c .before .before .before .before .before .before .before .before in
     let start = placed .before .before .before .before .before in
     let long : length (start .args .self .frame) ≡ 255 = search needs in
     let place = placed .fhdr-length .ensures in
@@ -23,7 +23,7 @@ resign-requires c κs =
 returns : tie.Need-returns
 returns c =
     let signed = c .before .before in
-    let masked = signed .before .before .before in
+    let masked = signed .before .before .before .before in
     let counted = masked .before .before .before .before in
     let placed = counted .before in
     let args = placed .before .before .before .before .before .args in
