@@ -61,8 +61,12 @@ fn decrypt_payload(frame: &mut [u8], fields: DataFrame, key: [u8; 16], counter: 
     ensures { λ _. ⌜ now (frame .exit) ≡ decrypted key counter (now (frame .entry)) ⌝ }
 {
     let start = header_end(fields);
+    let mic = fields.mic;
+    if start == mic {
+        return;
+    }
     let whole = full_counter(counter, fields.fcnt);
-    encrypt_part(key, frame, whole, start, fields.mic);
+    encrypt_part(key, frame, whole, start, mic);
 }
 
 fn decrypt_under(frame: &mut [u8], fields: DataFrame, key: MaybeKey, counter: u32) -> Opening
