@@ -4,13 +4,12 @@
 use mathlib.Core.List.{List, [], _∷_, _++_}
 use Prim.Native.Nat.{ℕ}
 use lib.ListN.{length}
-use Rattle.base.specs.Bytes.{tab, at}
+use Rattle.base.specs.Bytes.{tab, at, fourBytes}
 use Rattle.frame.specs.declared.refusals.Refusal.{Refusal}
 use Rattle.frame.specs.declared.join_fields.CfList.{CfList}
 use Rattle.frame.specs.declared.join_fields.CfList.the-variants.{Absent, Frequencies, Masks}
 use Rattle.frame.specs.declared.join_fields.JoinRequestFields.{JoinRequestFields}
 use Rattle.frame.specs.declared.join_fields.JoinAcceptFields.{JoinAcceptFields}
-use Rattle.amend_held.specs.HeldBuffer.{fourBytes}
 use Rattle.frame_opening.specs.declared.join_accept.SessionKeys.{SessionKeys}
 use Rattle.frame_c.specs.CAnswers.{orShort, Fills}
 

@@ -11,6 +11,7 @@ use Rattle.frame_opening.specs.FrameOpening.{Result}
 use Rattle.base.proofs.storing.put.Reads as base-put
 use Rattle.base.proofs.storing.byte_at.Reads as base-byte-at
 use Rattle.base.proofs.storing.wide.Reads as base-wide
+use Rattle.base.proofs.storing.four_bytes.Reads as base-four-bytes
 use Rattle.base.proofs.storing.three_at.Reads as base-three-at
 use Rattle.base.proofs.storing.four_at.Reads as base-four-at
 use Rattle.base.proofs.storing.block_at.Reads as base-block-at
@@ -120,6 +121,9 @@ base-byte-at-determined κs a x y s t p q = p ∙ sym q
 
 pub base-wide-determined : Determined base-wide.Learnt
 base-wide-determined κs a x y s t p q = p ∙ sym q
+
+pub base-four-bytes-determined : Determined base-four-bytes.Learnt
+base-four-bytes-determined κs a x y s t p q = p ∙ sym q
 
 pub base-three-at-determined : Determined base-three-at.Learnt
 base-three-at-determined κs a x y s t p q = p ∙ sym q
