@@ -77,6 +77,10 @@ uint64_t zinovoky_join_request_fields(const uint8_t *frame, size_t frame_len, ui
  * frequencies in units of 100 Hz, of four bytes each, low byte first. A list that it does not hold is zeros. */
 uint64_t zinovoky_join_accept_fields(const uint8_t *frame, size_t frame_len, uint8_t *fields, size_t fields_len);
 
+/* NwkID of an address of four bytes in frame order, as it stands in a data frame from place 1 on or among the fields of a
+ * join-accept: its seven high bits, 0 to 127. The answer is NwkID itself; every address has one, so there is no refusal. */
+uint8_t zinovoky_nwk_id(const uint8_t *dev_addr);
+
 /* Tests the MIC of a join-request, of a join-accept that is given clear, and of a data frame. `passes` becomes
  * 1 or 0; where the call answers a refusal it stays as it was. */
 uint64_t zinovoky_join_request_mic(const uint8_t *frame, size_t frame_len, const uint8_t *app_key, uint8_t *passes);

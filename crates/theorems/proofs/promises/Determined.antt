@@ -94,6 +94,7 @@ use Rattle.frame_c.proofs.opening.zinovoky_session_keys.Reads as c-session-keys
 use Rattle.frame_c.proofs.reading.zinovoky_read.Reads as c-read
 use Rattle.frame_c.proofs.reading.zinovoky_join_request_fields.Reads as c-join-request-fields
 use Rattle.frame_c.proofs.reading.zinovoky_join_accept_fields.Reads as c-join-accept-fields
+use Rattle.frame_c.proofs.reading.zinovoky_nwk_id.Reads as c-nwk-id
 use Rattle.frame_c.proofs.building.zinovoky_build_join_request.Reads as c-build-join-request
 use Rattle.frame_c.proofs.building.zinovoky_build_join_accept.Reads as c-build-join-accept
 use Rattle.frame_c.proofs.building.zinovoky_build_data.Reads as c-build-data
@@ -390,6 +391,9 @@ c-join-request-fields-determined κs a x y s t p q = (p .answer ∙ sym (q .answ
 
 pub c-join-accept-fields-determined : DeterminedLent (λ κs s. now (s .1 .0)) c-join-accept-fields.Learnt
 c-join-accept-fields-determined κs a x y s t p q = (p .answer ∙ sym (q .answer), p .output ∙ sym (q .output))
+
+pub c-nwk-id-determined : Determined c-nwk-id.Learnt
+c-nwk-id-determined κs a x y s t p q = p ∙ sym q
 
 pub c-build-join-request-determined : DeterminedLent (λ κs s. now (s .1 .1 .1 .1 .0)) c-build-join-request.Learnt
 c-build-join-request-determined κs a x y s t p q = (p .answer ∙ sym (q .answer), p .output ∙ sym (q .output))
