@@ -6,8 +6,7 @@ use Prim.Native.Nat.{ℕ}
 use lib.ListN.{length}
 use Rattle.base.specs.Bytes.{tab, at, fourBytes}
 use Rattle.frame.specs.declared.refusals.Refusal.{Refusal}
-use Rattle.frame.specs.declared.join_fields.CfList.{CfList}
-use Rattle.frame.specs.declared.join_fields.CfList.the-variants.{Absent, Frequencies, Masks}
+use Rattle.frame.specs.JoinFields.{listNumber}
 use Rattle.frame.specs.declared.join_fields.JoinRequestFields.{JoinRequestFields}
 use Rattle.frame.specs.declared.join_fields.JoinAcceptFields.{JoinAcceptFields}
 use Rattle.frame_opening.specs.declared.join_accept.SessionKeys.{SessionKeys}
@@ -31,12 +30,6 @@ requestEnd j = tab 2 (at (j .«dev_nonce»)) ++ tab 4 (at (j .mic))
 
 abbrev pub RequestInto : JoinRequestFields → List ℕ → ℕ → List ℕ → Type 0
 RequestInto j l r e = StoredInto (j .refusal) 22 (requestEuis j ++ requestEnd j) l r e
-
--- which list a join-accept holds: 0 none, 1 frequencies, 2 masks
-abbrev pub listNumber : CfList → ℕ
-listNumber Absent = 0
-listNumber Frequencies = 1
-listNumber Masks = 2
 
 -- five frequencies, of four bytes each
 unfoldable pub frequencyBytes : List ℕ → List ℕ

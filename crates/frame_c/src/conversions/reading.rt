@@ -1,6 +1,7 @@
 // The fields of the join messages in bytes.
 ghost use mathlib.Core.Path.{_≡_};
-ghost use Rattle.frame_c.specs.CStored.{requestEuis, requestEnd, RequestInto, listNumber, frequencyBytes, acceptFixed, AcceptInto};
+ghost use Rattle.frame.specs.JoinFields.{listNumber};
+ghost use Rattle.frame_c.specs.CStored.{requestEuis, requestEnd, RequestInto, frequencyBytes, acceptFixed, AcceptInto};
 use crate::conversions::storing::store_answer;
 use frame::join_fields::CfList;
 use frame::join_fields::JoinAcceptFields;
