@@ -1,2 +1,3 @@
 pub mod BuildingRefusals
+pub mod FirstDue
 pub mod ReadingRefusals

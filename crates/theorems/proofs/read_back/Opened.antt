@@ -30,7 +30,7 @@ use Rattle.frame_opening.specs.declared.mic_tests.MicTest.the-variants.{Passes,
 use Rattle.frame.proofs.LayoutLaws.{placed, length-payload, read-same}
 use Rattle.frame_opening.proofs.OpeningLaws.{pick-true, pick-false}
 use Rattle.frame.proofs.ReadingLaws.{reads-request, reads-accept, reads-data, data-read}
-use Rattle.theorems.proofs.refusals.ReadingRefusals.{Exactly}
+use Rattle.theorems.specs.Exactly.{Exactly}
 use Rattle.frame_security.proofs.SecurityLaws.{crypted-long, cryptedPart-long, cryptedPart-twice}
 
 -- ---- the MIC
