@@ -1,3 +1,5 @@
 pub mod BuildingRefusals
 pub mod FirstDue
+pub mod OpeningRefusals
+pub mod ReadFirst
 pub mod ReadingRefusals

@@ -23,7 +23,7 @@ use Rattle.frame_opening.specs.FrameOpening.{result, dataTest, dataOpened, give
 use Rattle.frame_security.specs.Security.{crypted, frameKey, fullCounter}
 use Rattle.frame_opening.specs.declared.mic_tests.MicTest.the-variants.{Passes}
 use Rattle.frame_opening.specs.declared.payload.Opening.the-variants.{Opened}
-use Rattle.theorems.proofs.read_back.Opened.{data-mic-exactly}
+use Rattle.theorems.proofs.refusals.OpeningRefusals.{data-test}
 use Rattle.theorems.proofs.read_back.OpenedParts.{opened-both}
 use Rattle.frame_build.specs.DataBuilding.{bodyOf, dataHeader, dataRefusal}
 use Rattle.frame_build.specs.DataFrames.{dataFrame}
@@ -87,7 +87,7 @@ module _ (nwk app : List ℕ) (d : DataParts) (commands body f : List ℕ) (b : 
   opens-back : DataOpens nwk app d commands body f
   opens-back =
       record {
-        passes = data-mic-exactly nwk f (d .fcnt) is-data .back (b .mic-back);
+        passes = data-test nwk (d .fcnt) f .passes .back (is-data, b .mic-back);
         opens = opened-back;
         holds = λ q e some. held-by f q (b .port q e some);
       }

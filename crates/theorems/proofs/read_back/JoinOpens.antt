@@ -16,7 +16,7 @@ use Rattle.frame.specs.Refusals.{refused}
 use Rattle.frame_security.specs.Security.{covered, joinMic}
 use Rattle.frame_opening.specs.declared.mic_tests.MicTest.the-variants.{Passes}
 use Rattle.frame_opening.specs.declared.payload.Opening.the-variants.{Opened}
-use Rattle.theorems.proofs.read_back.Opened.{request-mic-exactly}
+use Rattle.theorems.proofs.refusals.OpeningRefusals.{request-test}
 use Rattle.frame_security.proofs.MicCompared.{test-of-same}
 use Rattle.frame_build.specs.JoinBuilding.{joinAcceptBody}
 use Rattle.frame_build.specs.JoinFrames.{signed}
@@ -27,7 +27,7 @@ use Rattle.theorems.proofs.read_back.JoinParts.{RequestBack, AcceptBack
 -- of what `join-request-back` and `join-accept-back` give
 
 pub request-passes : (key : List ℕ) (j : JoinRequestParts) (f : List ℕ) → RequestBack key j f → joinRequestTest key f ≡ Passes
-request-passes key j f b = request-mic-exactly key f (request-read f (b .reads)) .back (b .mic)
+request-passes key j f b = request-test key f .passes .back (request-read f (b .reads), b .mic)
 
 -- the checked opening of a built join-accept accepts it, and leaves the clear bytes and their MIC
 pub accept-opens : (key : List ℕ) (j : JoinAcceptParts) (channels f : List ℕ)
