@@ -43,3 +43,10 @@ Due (c ∷ cs) n = choice (eqb (c .number) n) (c .holds) (c .fails × Due cs n)
 abbrev pub NotOwn : List Condition → Refusal → Type 0
 NotOwn [] r = r ≡ notRefused → ⊥
 NotOwn (c ∷ cs) r = (r ≡ refused (c .number) → ⊥) × NotOwn cs r
+
+-- x is the refusal of a call that goes by these conditions
+pub record Refuses (cs : List Condition) (x : Refusal) : Type 0 where
+  -- each number exactly where it is due
+  pub exactly : (n : ℕ) → Exactly (x ≡ refused n) (Due cs n)
+  -- and no other refusal
+  pub no-other : (r : Refusal) → NotOwn cs r → x ≡ r → ⊥

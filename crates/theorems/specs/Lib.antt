@@ -1,3 +1,4 @@
+pub mod AmendingConditions
 pub mod BuildingConditions
 pub mod ByReading
 pub mod Exactly

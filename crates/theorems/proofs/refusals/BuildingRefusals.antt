@@ -1,18 +1,16 @@
 -- Building gives each number exactly where it is due by the order of its conditions (docs/RULES.md, Refusals), 0 where none
 -- holds, and no other number: said of the definitions of the refusals, and of what each call answers, a refusal or a length.
 -- Assumes nothing.
-use mathlib.Core.Path.{_≡_, refl, sym, ap, _∙_}
+use mathlib.Core.Path.{_≡_, refl, sym, ap}
 use mathlib.Core.Bool.{Bool, true, false, not}
-use mathlib.Core.List.{List, [], _∷_}
-use Prim.Native.Nat.{ℕ, zero, suc, _%_, _<_, suc-le-suc}
+use mathlib.Core.List.{List}
+use Prim.Native.Nat.{ℕ, _%_, _<_}
 use native.Mathlib.Omega.{arith}
-use native.Mathlib.Nat.{not-suc-le-zero, le-of-suc-le-suc}
 use lib.Dec.{eqb, ltb}
 use lib.ListN.{length}
 use borrow.Author.Tests.{eqb-true, eqb-false, eq-eqb, ne-eqb, ltb-true, lt-ltb}
 use Rattle.base.specs.Bytes.{pick, at}
-use Rattle.base.proofs.Cases.{by-bool}
-use Rattle.frame.specs.Refusals.{refused, notRefused}
+use Rattle.frame.specs.Refusals.{notRefused}
 use Rattle.frame.specs.declared.refusals.Refusal.{Refusal}
 use Rattle.frame.specs.declared.parser.FPort.{FPort}
 use Rattle.frame.specs.declared.parser.FPort.the-variants.{Absent, Port}
@@ -27,10 +25,12 @@ use Rattle.frame_build.specs.declared.creator.join.JoinRequestParts.{JoinReques
 use Rattle.frame_build.specs.declared.creator.join.JoinAcceptParts.{JoinAcceptParts}
 use Rattle.theorems.specs.Exactly.{Exactly, Condition, Due}
 use Rattle.theorems.specs.BuildingConditions.{NotPort0, absent, other, dataConditions, requestConditions, WrongChannels, many, high, NoRoom, bare, with-list, acceptConditions, Answers}
-use Rattle.theorems.proofs.refusals.FirstDue.{apart, if-when, if-unless, if-not, if-below, if-equal, Gives, plain, none-left, or-else, no-other, in-answer}
+use Rattle.theorems.proofs.refusals.SomeIndex.{SomeAt, if-some}
+use Rattle.theorems.proofs.refusals.FirstDue.{apart, if-when, if-unless, if-not, if-below, if-equal, Gives, plain, none-left, or-else, says-told, no-other, in-answer}
 
 -- ---- what the tests tell
 
+-- of the port
 if-zero : (port : FPort) → Exactly (isZero port ≡ true) (port ≡ Port 0)
 if-zero Absent = record { there = λ e. apart (sym e); back = λ e. cc }
 if-zero (Port p) = record { there = λ e. ap Port (eqb-true p 0 e); back = λ e. eq-eqb p 0 (cc) }
@@ -53,35 +53,18 @@ if-both true b x y = record { there = λ e. (x .there refl, y .there e); back = 
 if-both false b x y = record { there = λ e. apart (sym e); back = λ h. x .back (h .0) }
 
 -- a channel that is too high stands at some index
-later-high : (c : ℕ) (cs : List ℕ) (i : ℕ) → i < length (c ∷ cs) → 16777215 < at (c ∷ cs) i → (16777215 < c → ⊥)
-    → (j : ℕ) × (j < length cs) × (16777215 < at cs j)
-later-high c cs zero l h n = absurd (n h)
-later-high c cs (suc i) l h n = (i, le-of-suc-le-suc l, h)
+if-high : (cs : List ℕ) → Exactly (tooHigh cs ≡ true) (SomeAt (λ c. 16777215 < c) cs)
+if-high = if-some (λ c. 16777215 < c) (ltb 16777215) (if-below 16777215) tooHigh refl (λ c cs. refl)
 
-high-there : (cs : List ℕ) → tooHigh cs ≡ true → (i : ℕ) × (i < length cs) × (16777215 < at cs i)
-high-there [] e = apart (sym e)
-high-there (c ∷ cs) e =
-    by-bool (ltb 16777215 c) (λ t. (0, omega arith, ltb-true 16777215 c t))
-    (λ t.
-    let h = high-there cs (sym (ap (λ (b : Bool). pick b true (tooHigh cs)) t) ∙ e) in
-    (suc (h .0), suc-le-suc (h .1), h .2))
-
-high-back : (cs : List ℕ) (i : ℕ) → i < length cs → 16777215 < at cs i → tooHigh cs ≡ true
-high-back [] i l h = absurd (not-suc-le-zero l)
-high-back (c ∷ cs) i l h =
-    by-bool (ltb 16777215 c) (λ t. ap (λ (b : Bool). pick b true (tooHigh cs)) t)
-    (λ t.
-    let k = later-high c cs i l h (λ g. apart (sym (lt-ltb 16777215 c g) ∙ t)) in
-    ap (λ (b : Bool). pick b true (tooHigh cs)) t ∙ high-back cs (k .0) (k .1) (k .2))
-
+-- so the two tests of the list tell that its channels are wrong
 wrong-channels : (b : Bool) (cs : List ℕ) → Exactly (b ≡ true) (5 < length cs) → either b (tooHigh cs) ≡ true → WrongChannels cs
 wrong-channels true cs x e = many (x .there refl)
-wrong-channels false cs x e = let h = high-there cs e in high (h .0) (h .1) (h .2)
+wrong-channels false cs x e = let h = if-high cs .there e in high (h .0) (h .1) (h .2)
 
 channels-wrong : (b : Bool) (cs : List ℕ) → Exactly (b ≡ true) (5 < length cs) → WrongChannels cs → either b (tooHigh cs) ≡ true
 channels-wrong true cs x w = refl
 channels-wrong false cs x (many h) = apart (sym (x .back h))
-channels-wrong false cs x (high i l h) = high-back cs i l h
+channels-wrong false cs x (high i l h) = if-high cs .back (i, l, h)
 
 if-channels : (cs : List ℕ) → Exactly (either (ltb 5 (length cs)) (tooHigh cs) ≡ true) (WrongChannels cs)
 if-channels cs =
@@ -91,6 +74,7 @@ if-channels cs =
       back = channels-wrong (ltb 5 (length cs)) cs many-told;
     }
 
+-- the room that is needed goes by the list
 room-there : (listed : Bool) (room : ℕ) → room < pick listed 33 17 → NoRoom listed room
 room-there true room h = with-list refl h
 room-there false room h = bare refl h
@@ -143,22 +127,17 @@ accept-gives j channels room =
 
 -- ---- and what a building answers by it
 
+-- the refusal that a building answers
 built-told : Built → Refusal
 built-told (Frame n) = notRefused
 built-told (Refused r) = r
 
-built-back : (n long : ℕ) → built-told (builtOf n long) ≡ refused n
-unfolding built-told
-built-back n long =
-    by-bool (eqb n 0)
-    (λ e. ap (λ (b : Bool). built-told (pick b (Frame long) (Refused (refused n)))) e ∙ ap refused (sym (eqb-true n 0 e)))
-    (λ e. ap (λ (b : Bool). built-told (pick b (Frame long) (Refused (refused n)))) e)
-
+-- what is due by the number is what is due by the answer
 answers : {cs : List Condition} {m : ℕ} (long : ℕ) → Gives plain cs m → Answers cs long (builtOf m long)
 unfolding built-told
 answers long g =
     let says : ℕ → Built = λ (n : ℕ). builtOf n long in
-    let back : (n : ℕ) → built-told (says n) ≡ refused n = λ n. built-back n long in
+    let back = says-told Refused (Frame long) built-told (λ r. refl) refl in
     let given = in-answer says built-told back g in
     record {
       refuses =

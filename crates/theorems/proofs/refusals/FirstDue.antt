@@ -12,9 +12,9 @@ use borrow.Author.Tests.{ltb-true, lt-ltb, leb-true, le-leb, eqb-true, eqb-false
 use Rattle.base.specs.Bytes.{pick}
 use Rattle.base.proofs.Cases.{by-bool}
 use Rattle.base.proofs.Tested.{both, both-left, both-right}
-use Rattle.frame.specs.Refusals.{refused}
+use Rattle.frame.specs.Refusals.{refused, notRefused}
 use Rattle.frame.specs.declared.refusals.Refusal.{Refusal}
-use Rattle.theorems.specs.Exactly.{Exactly, Condition, _when_, _unless_, choice, Due, NotOwn}
+use Rattle.theorems.specs.Exactly.{Exactly, Condition, _when_, _unless_, choice, Due, NotOwn, Refuses}
 
 -- ---- tests, and what they tell
 
@@ -178,6 +178,18 @@ module _ {A : Type 0} (says : ℕ → A) (told : A → Refusal) (back : (n : ℕ
             record { there = λ e. g .exactly n .there (same m n e); back = λ d. ap says (g .exactly n .back d) };
       }
 
+-- an answer that is z where nothing is refused, and e of the refusal where something is
+pub says-told : {A : Type 0} (e : Refusal → A) (z : A) (told : A → Refusal) → ((r : Refusal) → told (e r) ≡ r) → told z ≡ notRefused
+    → (n : ℕ) → told (pick (eqb n 0) z (e (refused n))) ≡ refused n
+says-told {A} e z told back none n =
+    let by : Bool → Refusal = λ (b : Bool). told (pick b z (e (refused n))) in
+    by-bool (eqb n 0) (λ t. ap by t ∙ none ∙ ap refused (sym (eqb-true n 0 t))) (λ t. ap by t ∙ back (refused n))
+
+-- a part of a choice
+pub through : {A B : Type 0} (h : A → B) (b : Bool) (x y : A) → h (pick b x y) ≡ pick b (h x) (h y)
+through h true x y = refl
+through h false x y = refl
+
 -- ---- of numbers alone
 
 plain-told : (n : ℕ) → refused (plain n) ≡ refused n
@@ -189,3 +201,19 @@ none-left = no-more plain refused plain-told
 pub or-else : {c : Condition} {cs : List Condition} {b : Bool} {m : ℕ} → T (fresh (c .number) cs) → Tells b c
     → Gives plain cs m → Gives plain (c ∷ cs) (pick b (c .number) m)
 or-else {b = b} new t g = tested plain refused plain-told new b t g
+
+-- ---- of refusals alone
+
+refused-told : (n : ℕ) → refused n ≡ refused n
+refused-told n = refl
+
+pub nothing-left : Gives refused [] notRefused
+nothing-left = no-more refused (λ r. r) refused-told
+
+-- past a test, and then past the rest
+pub past : {c : Condition} {cs : List Condition} {y : Refusal} → T (fresh (c .number) cs) → (b : Bool) → Tells (not b) c
+    → Gives refused cs y → Gives refused (c ∷ cs) (pick b y (refused (c .number)))
+past = passed refused (λ r. r) refused-told
+
+pub refuses : {cs : List Condition} {x : Refusal} → Gives refused cs x → Refuses cs x
+refuses g = record { exactly = g .exactly; no-other = no-other refused (λ r. r) refused-told g }

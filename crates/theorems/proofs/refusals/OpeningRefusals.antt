@@ -42,7 +42,7 @@ use Rattle.frame_opening.specs.declared.payload.Opening.the-variants.{Opened, R
 use Rattle.theorems.specs.Exactly.{Exactly, Condition}
 use Rattle.theorems.specs.ByReading.{Needs, join-request, join-accept, data-frame, Is, ByReading, AfterReading}
 use Rattle.theorems.specs.OpeningConditions.{RightDataMic, RightJoinMic, Tests, KeyMissing, absent, zero, other, plainConditions, checkedConditions, checkedAcceptConditions, openingOf}
-use Rattle.theorems.proofs.refusals.FirstDue.{apart, if-when, if-unless, if-not, Gives, no-more, passed}
+use Rattle.theorems.proofs.refusals.FirstDue.{apart, if-when, if-unless, if-not, Gives, no-more, passed, says-told, through}
 use Rattle.theorems.proofs.refusals.ReadFirst.{on, on-through, either-way, needed, handed-on, after-reading, refusal-after}
 
 -- ---- what the tests tell
@@ -73,11 +73,13 @@ module _ (f : List ℕ) (h : IsData f) where
       ap (λ (b : Bool). pick b nwk app)
       (by-port (header f) (length (payload f)) some ∙ ap (λ (q : ℕ). eqb q 0) (header-port l))
 
+  -- without a port it is the network key that is missing
   missing-absent : (nwk app : MaybeKey) → portOf f ≡ Absent → KeyMissing (portOf f) nwk app → nwk .given ≡ false
   missing-absent nwk app e (absent q m) = m
   missing-absent nwk app e (zero q m) = m
   missing-absent nwk app e (other p q n m) = absurd (n (cc))
 
+  -- with one it is the key that the port selects
   missing-port : (nwk app : MaybeKey) → portOf f ≡ Port (fport f) → KeyMissing (portOf f) nwk app
       → pick (eqb (fport f) 0) nwk app .given ≡ false
   missing-port nwk app e (absent q m) = cc
@@ -93,6 +95,7 @@ module _ (f : List ℕ) (h : IsData f) where
       (λ t. zero (e ∙ ap Port (eqb-true (fport f) 0 t)) (sym (ap (λ (b : Bool). pick b nwk app .given) t) ∙ m))
       (λ t. other (fport f) e (eqb-false (fport f) 0 t) (sym (ap (λ (b : Bool). pick b nwk app .given) t) ∙ m))
 
+  -- and so the test of the key tells whether it is missing
   if-missing : (nwk app : MaybeKey) → Exactly (frameKey f nwk app .given ≡ false) (KeyMissing (portOf f) nwk app)
   if-missing nwk app =
       by-order (length f) (fhdrLength f + 6)
@@ -107,21 +110,14 @@ module _ (f : List ℕ) (h : IsData f) where
 
 -- ---- openings
 
+-- the refusal that an opening answers
 opening-told : Opening → Refusal
 opening-told Opened = notRefused
 opening-told (Refused r) = r
 
 told-opening : (n : ℕ) → opening-told (openingOf n) ≡ refused n
 unfolding opening-told
-told-opening n =
-    by-bool (eqb n 0)
-    (λ e. ap (λ (b : Bool). opening-told (pick b Opened (Refused (refused n)))) e ∙ ap refused (sym (eqb-true n 0 e)))
-    (λ e. ap (λ (b : Bool). opening-told (pick b Opened (Refused (refused n)))) e)
-
--- a choice of two results, and the answers in them
-answer-of : (b : Bool) (x y : Result) → pick b x y .answer ≡ pick b (x .answer) (y .answer)
-answer-of true x y = refl
-answer-of false x y = refl
+told-opening = says-told Refused Opened opening-told (λ r. refl) refl
 
 -- an opening that goes on past reading: its answer where the frame is what it needs
 opens-after : (k : Needs) (f : List ℕ) {cs : List Condition} (x : Result) → (Is k f → Gives openingOf cs (x .answer))
@@ -137,7 +133,7 @@ key-gives : (nwk app : MaybeKey) (counter : ℕ) (f : List ℕ) → IsData f
 unfolding openedUnder
 key-gives nwk app counter f h =
     let key = frameKey f nwk app in
-    rw (answer-of (key .given) (result Opened (decrypted (key .key) counter f)) (unopened f (refused 6)))
+    rw (through (λ (r : Result). r .answer) (key .given) (result Opened (decrypted (key .key) counter f)) (unopened f (refused 6)))
     (passed openingOf opening-told told-opening tt (key .given)
     (if-when (not (key .given)) (if-not (key .given) (if-missing f h nwk app)))
     (no-more openingOf opening-told told-opening))
@@ -148,16 +144,17 @@ tested-gives : (nwk : List ℕ) (app : MaybeKey) (counter : ℕ) (f : List ℕ) 
 unfolding openedTested dataPasses
 tested-gives nwk app counter f h =
     let right = sameBytes (micOf f) (dataMic nwk (covered f) counter) in
-    rw (answer-of right (openedUnder (frameKey f (givenKey nwk) app) counter f) (unopened f (refused 5)))
+    rw (through (λ (r : Result). r .answer) right (openedUnder (frameKey f (givenKey nwk) app) counter f) (unopened f (refused 5)))
     (passed openingOf opening-told told-opening tt right (if-unless right (if-right (micOf f) (dataMic nwk (covered f) counter)))
     (key-gives (givenKey nwk) app counter f h))
 
+-- a join-accept, past the test of its clear MIC
 accept-gives : (key f : List ℕ) → Gives openingOf (checkedAcceptConditions key f) (acceptTested key f .answer)
 unfolding acceptTested joinPasses
 accept-gives key f =
     let clear = acceptDecrypted key f in
     let right = sameBytes (micOf clear) (joinMic key (covered clear)) in
-    rw (answer-of right (result Opened clear) (unopened f (refused 5)))
+    rw (through (λ (r : Result). r .answer) right (result Opened clear) (unopened f (refused 5)))
     (passed openingOf opening-told told-opening tt right (if-unless right (if-right (micOf clear) (joinMic key (covered clear))))
     (no-more openingOf opening-told told-opening))
 
@@ -206,6 +203,7 @@ accept-5 key f = checked-accept key f .own 5 tt
 
 -- ---- MIC tests
 
+-- what an answer says of the comparison
 passes-where : (b : Bool) → answered b ≡ Passes → b ≡ true
 passes-where true e = refl
 passes-where false e = cc
@@ -220,6 +218,7 @@ never-refused false r e = apart (cc)
 
 -- a test that compares s and u, of a frame that it needs
 module _ (k : Needs) (f s u : List ℕ) where
+  -- its answer, where the frame is what it needs and where reading refuses
   abbrev test : MicTest
   test = on k (answered (sameBytes s u)) RefusedTest (readOf f)
 
@@ -284,6 +283,7 @@ data-test key counter f = tests data-frame f (micOf f) (dataMic key (covered f) 
 
 -- ---- calls with a refusal beside their values: reading alone
 
+-- the refusal beside values that are given of a frame of the right type
 values-after : (k : Needs) (f : List ℕ) → AfterReading (λ r. r) refused k f [] (on k notRefused (λ r. r) (readOf f))
 values-after k f = refusal-after k f (λ i. no-more refused (λ r. r) (λ n. refl))
 
