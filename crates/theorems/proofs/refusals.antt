@@ -1,2 +1,7 @@
+pub mod AmendingRefusals
 pub mod BuildingRefusals
+pub mod FirstDue
+pub mod OpeningRefusals
+pub mod ReadFirst
 pub mod ReadingRefusals
+pub mod SomeIndex

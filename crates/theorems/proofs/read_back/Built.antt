@@ -15,7 +15,7 @@ use borrow.Author.Tests.{eqb-true}
 use Rattle.base.specs.Bytes.{pick}
 use Rattle.base.proofs.Cases.{by-bool}
 use Rattle.frame.specs.Refusals.{refused}
-use Rattle.frame_build.specs.DataFrames.{Builds, builtOf, outOf}
+use Rattle.frame_build.specs.DataFrames.{Builds, builtOf, builtValue, outOf}
 use Rattle.frame_build.specs.declared.creator.Built.{Built}
 use Rattle.frame_build.specs.declared.creator.Built.the-variants.{Frame, Refused}
 use Rattle.frame_build.specs.declared.creator.data_frame.DataParts.{DataParts}
@@ -25,7 +25,7 @@ use Rattle.frame_build.proofs.creator.join.build_join_accept.Reads as build-joi
 use Rattle.theorems.proofs.read_back.DataParts.{DataBack, data-back}
 use Rattle.theorems.proofs.read_back.DataOpens.{DataOpens, data-opens}
 use Rattle.theorems.proofs.read_back.JoinParts.{join-request-back, join-accept-back}
-use Rattle.theorems.proofs.read_back.JoinOpens.{RequestAnswers, request-answers, AcceptAnswers, accept-answers}
+use Rattle.theorems.proofs.read_back.JoinOpens.{RequestOpens, request-opens, AcceptOpens, accept-opens}
 
 -- a claim holds of every outcome of a call: of its arguments, its answer and what it was lent as it returns
 abbrev pub Always : {K : Type 0} {D R S : K → Type 0} → ((κs : K) → D κs → R κs → S κs → Type 0)
@@ -34,10 +34,6 @@ abbrev pub Always : {K : Type 0} {D R S : K → Type 0} → ((κs : K) → D κs
 Always {K} {D} {R} {S} post claim = (κs : K) (a : D κs) (r : R κs) (s : S κs) → post κs a r s → claim κs a r s
 
 -- ---- an accepted building
-
-abbrev lengthOf : Built → ℕ
-lengthOf (Frame n) = n
-lengthOf (Refused r) = 0
 
 -- nothing was refused, and the frame stands at the start of the output
 pub built-frame : (refusal : ℕ) (frame l e : List ℕ) (r : Built) → Builds refusal frame l r e → (n : ℕ) → r ≡ Frame n
@@ -50,7 +46,7 @@ built-frame refusal frame l e r b n q = by-bool (eqb refusal 0) taken not-taken
         sym q ∙ b .answer ∙ ap (λ (u : Bool). pick u (Frame (length frame)) (Refused (refused refusal))) t in
         let out : e ≡ frame ++ drop (length frame) l =
         b .output ∙ ap (λ (u : Bool). pick u (frame ++ drop (length frame) l) l) t in
-        (eqb-true refusal 0 t, ap (take n) out ∙ take-at frame (drop (length frame) l) n (sym (ap lengthOf same)))
+        (eqb-true refusal 0 t, ap (take n) out ∙ take-at frame (drop (length frame) l) n (sym (ap builtValue same)))
 
     not-taken : eqb refusal 0 ≡ false → (refusal ≡ 0) × (take n e ≡ frame)
     not-taken t =
@@ -84,20 +80,20 @@ data-built κs a r s p n q =
 -- ---- join-requests: parts, AppKey, output
 
 pub join-request-built : Always build-join-request.Learnt
-    (λ κs a r s. (n : ℕ) → r ≡ Frame n → RequestAnswers (a .1 .0) (a .0) (take n (now (s .1 .1 .0))))
+    (λ κs a r s. (n : ℕ) → r ≡ Frame n → RequestOpens (a .1 .0) (a .0) (take n (now (s .1 .1 .0))))
 join-request-built κs a r s p n q =
     let b = built-frame _ _ _ _ r (p .0) n q in
-    subst (λ (f : List ℕ). RequestAnswers (a .1 .0) (a .0) f) (sym (b .1))
-    (request-answers (a .1 .0) (a .0) _ (join-request-back (a .1 .0) (a .0) (p .1)))
+    subst (λ (f : List ℕ). RequestOpens (a .1 .0) (a .0) f) (sym (b .1))
+    (request-opens (a .1 .0) (a .0) _ (join-request-back (a .1 .0) (a .0) (p .1)))
 
 -- ---- join-accepts: parts, channels, AppKey, output
 
 pub join-accept-built : Always build-join-accept.Learnt
     (λ κs a r s.
-    (n : ℕ) → r ≡ Frame n → AcceptAnswers (a .1 .1 .0) (a .0) (now (a .1 .0)) (take n (now (s .1 .1 .1 .0))))
+    (n : ℕ) → r ≡ Frame n → AcceptOpens (a .1 .1 .0) (a .0) (now (a .1 .0)) (take n (now (s .1 .1 .1 .0))))
 join-accept-built κs a r s p n q =
     let key = a .1 .1 .0 in
     let channels = now (a .1 .0) in
     let b = built-frame _ _ _ _ r (p .0) n q in
-    subst (λ (f : List ℕ). AcceptAnswers key (a .0) channels f) (sym (b .1))
-    (accept-answers key (a .0) channels _ (join-accept-back key (a .0) (p .1) channels _ (b .0)))
+    subst (λ (f : List ℕ). AcceptOpens key (a .0) channels f) (sym (b .1))
+    (accept-opens key (a .0) channels _ (join-accept-back key (a .0) (p .1) channels _ (b .0)))

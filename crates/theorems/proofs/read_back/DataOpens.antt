@@ -29,7 +29,7 @@ use Rattle.amend.specs.OpenFrame.{openedOf, acceptedOpening, openOf}
 use Rattle.amend.proofs.Accepted.{accepted-opens}
 use Rattle.frame_opening.specs.declared.mic_tests.MicTest.the-variants.{Passes}
 use Rattle.frame_opening.specs.declared.payload.Opening.the-variants.{Opened}
-use Rattle.theorems.proofs.read_back.Opened.{data-mic-exactly}
+use Rattle.theorems.proofs.refusals.OpeningRefusals.{data-test}
 use Rattle.theorems.proofs.read_back.OpenedParts.{opened-both}
 use Rattle.frame_build.specs.DataBuilding.{bodyOf, dataHeader}
 use Rattle.frame_build.specs.declared.creator.data_frame.DataParts.{DataParts}
@@ -106,7 +106,7 @@ module _ (nwk app : List ℕ) (d : DataParts) (commands body f : List ℕ) (b : 
   pub data-opens : DataOpens nwk app d commands body f
   data-opens =
       record {
-        passes = data-mic-exactly nwk f (d .fcnt) is-data .back (b .mic-back);
+        passes = data-test nwk (d .fcnt) f .passes .back (is-data, b .mic-back);
         opens = opened-back;
         opens-checked = checked-back ∙ opened-back;
         opens-to-amend =

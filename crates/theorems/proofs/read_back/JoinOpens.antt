@@ -6,6 +6,7 @@ use mathlib.Core.Bool.{Bool}
 use mathlib.Core.List.{List}
 use Prim.Native.Nat.{ℕ}
 use Rattle.base.specs.Bytes.{pick}
+use Rattle.frame.specs.Conditions.{IsJoinAccept}
 use Rattle.frame.specs.JoinFields.{requestFields, noRequest, joinRequestFields, acceptFields, noAccept, joinAcceptFields}
 use Rattle.frame.specs.Layout.{micOf}
 use Rattle.frame.specs.Reading.{readOf}
@@ -19,7 +20,7 @@ use Rattle.frame_security.specs.JoinAcceptCipher.{acceptDecrypted}
 use Rattle.frame_security.specs.Security.{covered, joinMic}
 use Rattle.frame_opening.specs.declared.mic_tests.MicTest.the-variants.{Passes}
 use Rattle.frame_opening.specs.declared.payload.Opening.the-variants.{Opened}
-use Rattle.theorems.proofs.read_back.Opened.{request-mic-exactly, accept-mic-exactly}
+use Rattle.theorems.proofs.refusals.OpeningRefusals.{request-test, accept-test}
 use Rattle.frame_security.proofs.MicCompared.{test-of-same}
 use Rattle.frame_build.specs.JoinBuilding.{joinAcceptBody, joinAcceptLength, joinRequestBody}
 use Rattle.frame_build.specs.JoinFrames.{signed}
@@ -28,23 +29,23 @@ use Rattle.frame_build.specs.declared.creator.join.JoinRequestParts.{JoinReques
 use Rattle.theorems.proofs.read_back.JoinParts.{RequestBack, requestRecord, AcceptBack, builtFields}
 
 -- what the calls answer of a built join-request f
-pub record RequestAnswers (key : List ℕ) (j : JoinRequestParts) (f : List ℕ) : Type 0 where
+pub record RequestOpens (key : List ℕ) (j : JoinRequestParts) (f : List ℕ) : Type 0 where
   pub reads : readOf f ≡ JoinRequest
   pub passes : joinRequestTest key f ≡ Passes
   pub fields : joinRequestFields f
       ≡ requestRecord (j .«app_eui») (j .«dev_eui») (j .«dev_nonce») (joinMic key (joinRequestBody j))
 
 -- of what `join-request-back` gives
-pub request-answers : (key : List ℕ) (j : JoinRequestParts) (f : List ℕ) → RequestBack key j f → RequestAnswers key j f
-request-answers key j f b =
+pub request-opens : (key : List ℕ) (j : JoinRequestParts) (f : List ℕ) → RequestBack key j f → RequestOpens key j f
+request-opens key j f b =
     record {
       reads = b .reads;
-      passes = request-mic-exactly key f (request-read f (b .reads)) .back (b .mic);
+      passes = request-test key f .passes .back (request-read f (b .reads), b .mic);
       fields = ap (onRequest (requestFields f) noRequest) (b .reads) ∙ b .fields;
     }
 
 -- what the calls answer of a built join-accept f: it opens, checked, and leaves g
-pub record AcceptAnswers (key : List ℕ) (j : JoinAcceptParts) (channels f : List ℕ) : Type 0 where
+pub record AcceptOpens (key : List ℕ) (j : JoinAcceptParts) (channels f : List ℕ) : Type 0 where
   pub reads : readOf f ≡ JoinAccept (joinAcceptLength j)
   pub opens : acceptOpenedChecked key f ≡ result Opened (signed key (joinAcceptBody j channels))
   pub clear-reads : readOf (acceptOpenedChecked key f .bytes) ≡ JoinAccept (joinAcceptLength j)
@@ -70,11 +71,13 @@ module _ (key : List ℕ) (j : JoinAcceptParts) (channels f : List ℕ) (b : Acc
   clear-fields = ap (onAccept (λ n. acceptFields g) noAccept) (b .clear-reads) ∙ b .fields
 
   clear-passes : joinAcceptTest key g ≡ Passes
-  clear-passes = accept-mic-exactly key g (joinAcceptLength j) (accept-read g (b .clear-reads)) .back (b .mic)
+  clear-passes =
+      let read : IsJoinAccept g (joinAcceptLength j) = accept-read g (b .clear-reads) in
+      accept-test key g .passes .back (subst (λ (n : ℕ). IsJoinAccept g n) (sym (read .long)) read, b .mic)
 
   -- of what `join-accept-back` gives
-  pub accept-answers : AcceptAnswers key j channels f
-  accept-answers =
+  pub accept-opens : AcceptOpens key j channels f
+  accept-opens =
       record {
         reads = b .reads;
         opens = opened ∙ ap (result Opened) (b .clear);

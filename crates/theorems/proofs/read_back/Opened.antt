@@ -1,8 +1,8 @@
--- Laws on tests and openings: a MIC test passes exactly if the last four bytes are the MIC of those ahead of them; decrypting a
--- data frame leaves every byte outside the payload, and so the reading, as it was, and done twice gives the frame back.
+-- Laws on openings: decrypting a data frame leaves every byte outside the payload, and so the reading, as it was, and done twice
+-- gives the frame back.
 -- Assumes nothing.
 use mathlib.Core.Path.{_≡_, refl, sym, ap, ap₂, _∙_}
-use mathlib.Core.Bool.{Bool, true, false}
+use mathlib.Core.Bool.{true, false}
 use mathlib.Core.List.{List}
 use Prim.Native.Nat.{ℕ, _+_, _-_, _*_, _%_, _≤_, _<_, min}
 use native.Mathlib.Omega.{arith}
@@ -11,63 +11,22 @@ use lib.Seq.{getD-take, getD-drop}
 use Rattle.base.specs.Bytes.{at, part}
 use Rattle.base.proofs.Cases.{by-bool, by-order}
 use Rattle.base.proofs.Lent.{part-long, put-before, put-after}
-use Rattle.frame_security.specs.Mic.{sameBytes}
-use Rattle.frame_security.proofs.MicCompared.{same-of-test, test-of-same}
-use Rattle.frame.specs.Conditions.{IsJoinRequest, IsJoinAccept, IsData}
+use Rattle.frame.specs.Conditions.{IsData}
 use Rattle.frame.specs.Layout.{fcnt, header, headerEnd, payload, payloadEnd, micOf}
 use Rattle.frame.specs.Refusals.{refused}
 use Rattle.frame.specs.declared.refusals.Refusal.{Refusal}
-use Rattle.frame.specs.ReadingNumbers.{onRequest, onAccept, onData}
-use Rattle.frame_opening.specs.FrameOpening.{joinPasses, dataPasses, answered, joinRequestTest, joinAcceptTest, dataTest, Result, unopened, decrypted, openedUnder, dataOpened}
+use Rattle.frame.specs.ReadingNumbers.{onData}
+use Rattle.frame_opening.specs.FrameOpening.{Result, unopened, decrypted, openedUnder, dataOpened}
 use Rattle.frame.specs.Reading.{readOf}
-use Rattle.frame_security.specs.Security.{crypted, cryptedPart, payloadKey, frameKey, fullCounter, covered, dataMic, joinMic}
+use Rattle.frame_security.specs.Security.{crypted, cryptedPart, payloadKey, frameKey, fullCounter}
 use Rattle.frame.specs.declared.keys.MaybeKey.{MaybeKey}
 use Rattle.frame.specs.declared.parser.DataFrame.{DataFrame}
 use Rattle.frame.specs.declared.parser.Reading.{Reading}
 use Rattle.frame.specs.declared.parser.Reading.the-variants.{JoinRequest, JoinAccept, Data, Refused}
-use Rattle.frame_opening.specs.declared.mic_tests.MicTest.{MicTest}
-use Rattle.frame_opening.specs.declared.mic_tests.MicTest.the-variants.{Passes, Refused as RefusedTest}
 use Rattle.frame.proofs.LayoutLaws.{placed, length-payload, read-same}
 use Rattle.frame_opening.proofs.OpeningLaws.{pick-true, pick-false}
-use Rattle.frame.proofs.ReadingLaws.{reads-request, reads-accept, reads-data, data-read}
-use Rattle.theorems.proofs.refusals.ReadingRefusals.{Exactly}
+use Rattle.frame.proofs.ReadingLaws.{data-read}
 use Rattle.frame_security.proofs.SecurityLaws.{crypted-long, cryptedPart-long, cryptedPart-twice}
-
--- ---- the MIC
-
-passed : (b : Bool) → answered b ≡ Passes → b ≡ true
-passed true h = refl
-passed false h = cc
-
-tested : (t : MicTest) (s u : List ℕ) → t ≡ answered (sameBytes s u) → Exactly (t ≡ Passes) (s ≡ u)
-tested t s u e =
-    record {
-      there = λ p. same-of-test s u (passed (sameBytes s u) (sym e ∙ p));
-      back = λ q. e ∙ ap answered (test-of-same s u q);
-    }
-
-pub request-mic-exactly : (key f : List ℕ) → IsJoinRequest f
-    → Exactly (joinRequestTest key f ≡ Passes) (micOf f ≡ joinMic key (covered f))
-unfolding joinRequestTest joinPasses
-request-mic-exactly key f h =
-    tested (joinRequestTest key f) (micOf f) (joinMic key (covered f))
-    (ap (onRequest (answered (joinPasses key f)) RefusedTest) (reads-request f h))
-
-pub accept-mic-exactly : (key f : List ℕ) (n : ℕ) → IsJoinAccept f n
-    → Exactly (joinAcceptTest key f ≡ Passes) (micOf f ≡ joinMic key (covered f))
-unfolding joinAcceptTest joinPasses
-accept-mic-exactly key f n h =
-    tested (joinAcceptTest key f) (micOf f) (joinMic key (covered f))
-    (ap (onAccept (λ m. answered (joinPasses key f)) RefusedTest) (reads-accept f n h))
-
-pub data-mic-exactly : (key f : List ℕ) (counter : ℕ) → IsData f
-    → Exactly (dataTest key counter f ≡ Passes) (micOf f ≡ dataMic key (covered f) counter)
-unfolding dataTest dataPasses
-data-mic-exactly key f counter h =
-    tested (dataTest key counter f) (micOf f) (dataMic key (covered f) counter)
-    (ap (onData (λ d. answered (dataPasses key counter f)) RefusedTest) (reads-data f h))
-
--- ---- the payload
 
 module _ (key f : List ℕ) (counter : ℕ) (h : IsData f) where
   order : headerEnd f ≤ payloadEnd f

@@ -3,7 +3,7 @@
 -- Assumes nothing.
 use mathlib.Core.Path.{_≡_, refl, ap, _∙_, subst}
 use mathlib.Core.List.{List}
-use mathlib.Core.Logic.{_⊎_, ⊎-elim}
+use mathlib.Core.Logic.{⊎-elim}
 use Prim.Native.Nat.{ℕ, _≤_, _<_}
 use native.Mathlib.Omega.{arith}
 use Rattle.frame.specs.Reading.{readOf}
@@ -11,12 +11,8 @@ use Rattle.frame.specs.ReadingNumbers.{numberOf}
 use Rattle.frame.specs.Conditions.{IsJoinRequest, IsJoinAccept, IsData, WrongLength, request, accept, header, Gives12, Gives1, Gives2, Gives3, Gives4, Passes, Gives, of12, of1, of2, of3, of4}
 use Rattle.frame.specs.declared.parser.Reading.{Reading}
 use Rattle.frame.specs.declared.parser.Reading.the-variants.{JoinRequest, JoinAccept, Data, Refused}
+use Rattle.theorems.specs.Exactly.{Exactly}
 use Rattle.frame.proofs.ReadingLaws.{Says, answers, reads-12, reads-1, reads-2, reads-3, reads-4}
-
--- the two ways of a rule
-pub record Exactly (A B : Type 0) : Type 0 where
-  pub there : A → B
-  pub back : B → A
 
 -- ---- from a number to its condition
 
@@ -83,21 +79,21 @@ module _ (f : List ℕ) where
   data-right h (header t u n) = omega arith
 
   -- what a given refusal says and what an accepted frame says do not go together
-  not-both : (n : ℕ) → Gives f n → Passes f → ⊥
+  pub not-both : (n : ℕ) → Gives f n → Passes f → ⊥
   not-both n (of12 e g) p = omega arith
   not-both n (of1 e g) p = omega arith
   not-both n (of2 e g) p = g .other (p .not-2)
   not-both n (of3 e g) p = omega arith
   not-both n (of4 e g) p = p .not-4 (g .wrong)
 
-  not-none : Gives f 0 → ⊥
+  pub not-none : Gives f 0 → ⊥
   not-none (of12 e g) = omega arith
   not-none (of1 e g) = omega arith
   not-none (of2 e g) = omega arith
   not-none (of3 e g) = omega arith
   not-none (of4 e g) = omega arith
 
-  passes : (r : Reading) → Says f r → numberOf r ≡ 0 → Passes f
+  pub passes : (r : Reading) → Says f r → numberOf r ≡ 0 → Passes f
   passes JoinRequest s e =
       record { not-12 = omega arith; not-1 = omega arith; not-2 = s .version; not-3 = omega arith; not-4 = request-right s }
   passes (JoinAccept n) s e =

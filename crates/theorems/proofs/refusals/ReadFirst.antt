@@ -1,0 +1,170 @@
+-- A call that reads a frame first hands on what reading gives, and goes by its own conditions exactly where the frame is what it
+-- needs. By cases on what the reader answers, once for all calls.
+-- Assumes nothing.
+use mathlib.Core.Path.{_≡_, refl, sym, ap, _∙_, subst}
+use mathlib.Core.List.{List}
+use mathlib.Core.Logic.{_⊎_, inl, inr, ⊎-elim}
+use Prim.Native.Nat.{ℕ}
+use native.Mathlib.Omega.{arith}
+use lib.Dec.{T}
+use lib.ListN.{length}
+use Rattle.frame.specs.Conditions.{IsJoinAccept, Passes, Gives, of12, of1, of2, of3, of4}
+use Rattle.frame.specs.Reading.{readOf, dataOf}
+use Rattle.frame.specs.ReadingNumbers.{numberOf, onRequest, onAccept, onData}
+use Rattle.frame.specs.Refusals.{refused}
+use Rattle.frame.specs.declared.refusals.Refusal.{Refusal}
+use Rattle.frame.specs.declared.parser.Reading.{Reading}
+use Rattle.frame.specs.declared.parser.Reading.the-variants.{JoinRequest, JoinAccept, Data, Refused}
+use Rattle.frame.proofs.ReadingLaws.{Says, answers, refusal-read, reads-request, reads-accept, reads-data}
+use Rattle.theorems.specs.Exactly.{Condition}
+use Rattle.theorems.specs.ByReading.{Needs, join-request, join-accept, data-frame, Is, ByReading, keeps, other, ofReading, AfterReading}
+use Rattle.theorems.proofs.refusals.FirstDue as due
+use Rattle.theorems.proofs.refusals.ReadingRefusals.{passes, not-both}
+
+-- what a call gives that needs a frame of one type: x there, e at the refusal of any other
+abbrev pub on : {A : Type 0} → Needs → A → (Refusal → A) → Reading → A
+on join-request x e r = onRequest x e r
+on join-accept x e r = onAccept (λ n. x) e r
+on data-frame x e r = onData (λ d. x) e r
+
+-- a part of what it gives
+pub on-through : {A B : Type 0} (h : A → B) (k : Needs) (x : A) (e : Refusal → A) (r : Reading)
+    → h (on k x e r) ≡ on k (h x) (λ s. h (e s)) r
+on-through h join-request x e JoinRequest = refl
+on-through h join-request x e (JoinAccept n) = refl
+on-through h join-request x e (Data d) = refl
+on-through h join-request x e (Refused r) = refl
+on-through h join-accept x e JoinRequest = refl
+on-through h join-accept x e (JoinAccept n) = refl
+on-through h join-accept x e (Data d) = refl
+on-through h join-accept x e (Refused r) = refl
+on-through h data-frame x e JoinRequest = refl
+on-through h data-frame x e (JoinAccept n) = refl
+on-through h data-frame x e (Data d) = refl
+on-through h data-frame x e (Refused r) = refl
+
+-- ---- which frames are needed, and what reading gives of the others
+
+module _ (f : List ℕ) where
+  -- the reading of a frame that is needed
+  readAs : Needs → Reading
+  readAs join-request = JoinRequest
+  readAs join-accept = JoinAccept (length f)
+  readAs data-frame = Data (dataOf f)
+
+  reads-as : (k : Needs) → Is k f → readOf f ≡ readAs k
+  unfolding readAs
+  reads-as join-request h = reads-request f h
+  reads-as join-accept h = reads-accept f (length f) h
+  reads-as data-frame h = reads-data f h
+
+  own-length : (n : ℕ) → IsJoinAccept f n → IsJoinAccept f (length f)
+  own-length n h = record { version = h .version; type = h .type; long = refl; either = rw (h .long) (h .either) }
+
+  another : (k : Needs) (r : Reading) → Says f r → numberOf r ≡ 0 → (Is k f → ⊥) → (s : Refusal) × ByReading k f s
+  another k r s z n = (refused 4, other (passes f r s z) n refl)
+
+  -- the frame is what is needed, or reading gives a refusal
+  sorted : (k : Needs) (r : Reading) → readOf f ≡ r → Says f r → Is k f ⊎ ((s : Refusal) × ByReading k f s)
+  sorted join-request JoinRequest q s = inl s
+  sorted join-request (JoinAccept n) q s = inr (another join-request (JoinAccept n) s refl (λ h. omega arith))
+  sorted join-request (Data d) q s = inr (another join-request (Data d) s refl (λ h. omega arith))
+  sorted join-request (Refused r) q s = inr (r, keeps q)
+  sorted join-accept JoinRequest q s = inr (another join-accept JoinRequest s refl (λ h. omega arith))
+  sorted join-accept (JoinAccept n) q s = inl (own-length n s)
+  sorted join-accept (Data d) q s = inr (another join-accept (Data d) s refl (λ h. omega arith))
+  sorted join-accept (Refused r) q s = inr (r, keeps q)
+  sorted data-frame JoinRequest q s = inr (another data-frame JoinRequest s refl (λ h. omega arith))
+  sorted data-frame (JoinAccept n) q s = inr (another data-frame (JoinAccept n) s refl (λ h. omega arith))
+  sorted data-frame (Data d) q s = inl (s .0)
+  sorted data-frame (Refused r) q s = inr (r, keeps q)
+
+  pub either-way : (k : Needs) → Is k f ⊎ ((s : Refusal) × ByReading k f s)
+  either-way k = sorted k (readOf f) refl (answers f)
+
+  -- the number is one of reading's
+  of-reading : (n : ℕ) → Gives f n → T (ofReading n)
+  of-reading n (of12 e g) = rw e tt
+  of-reading n (of1 e g) = rw e tt
+  of-reading n (of2 e g) = rw e tt
+  of-reading n (of3 e g) = rw e tt
+  of-reading n (of4 e g) = rw e tt
+
+  reading-number : (k : Needs) (r : Refusal) → ByReading k f r → T (ofReading (r .number))
+  reading-number k r (keeps q) = of-reading (r .number) (refusal-read f q)
+  reading-number k r (other p n e) = rw e tt
+
+-- ---- what the call gives
+
+module _ {A : Type 0} (x : A) (e : Refusal → A) (f : List ℕ) where
+  pub needed : (k : Needs) → Is k f → on k x e (readOf f) ≡ x
+  unfolding readAs
+  needed join-request h = ap (on join-request x e) (reads-as f join-request h)
+  needed join-accept h = ap (on join-accept x e) (reads-as f join-accept h)
+  needed data-frame h = ap (on data-frame x e) (reads-as f data-frame h)
+
+  keeps-refusal : (k : Needs) (r : Refusal) → on k x e (Refused r) ≡ e r
+  keeps-refusal join-request r = refl
+  keeps-refusal join-accept r = refl
+  keeps-refusal data-frame r = refl
+
+  other-gives : (k : Needs) (r : Reading) → Says f r → Passes f → (Is k f → ⊥) → on k x e r ≡ e (refused 4)
+  other-gives join-request JoinRequest s p n = absurd (n s)
+  other-gives join-request (JoinAccept m) s p n = refl
+  other-gives join-request (Data d) s p n = refl
+  other-gives join-request (Refused r) s p n = absurd (not-both f (r .number) (s .0) p)
+  other-gives join-accept JoinRequest s p n = refl
+  other-gives join-accept (JoinAccept m) s p n = absurd (n (own-length f m s))
+  other-gives join-accept (Data d) s p n = refl
+  other-gives join-accept (Refused r) s p n = absurd (not-both f (r .number) (s .0) p)
+  other-gives data-frame JoinRequest s p n = refl
+  other-gives data-frame (JoinAccept m) s p n = refl
+  other-gives data-frame (Data d) s p n = absurd (n (s .0))
+  other-gives data-frame (Refused r) s p n = absurd (not-both f (r .number) (s .0) p)
+
+  pub handed-on : (k : Needs) (r : Refusal) → ByReading k f r → on k x e (readOf f) ≡ e r
+  handed-on k r (keeps q) = ap (on k x e) q ∙ keeps-refusal k r
+  handed-on k r (other p n q) = other-gives k (readOf f) (answers f) p n ∙ ap e (sym q)
+
+-- ---- the law
+
+-- an answer tells the refusal that it says
+module _ {A : Type 0} (e : Refusal → A) (says : ℕ → A) (told : A → Refusal) (told-e : (r : Refusal) → told (e r) ≡ r)
+    (told-says : (n : ℕ) → told (says n) ≡ refused n) where
+  pub after-reading : (k : Needs) (f : List ℕ) {cs : List Condition} {x : A} → (Is k f → due.Gives says cs x)
+      → AfterReading e says k f cs (on k x e (readOf f))
+  after-reading k f {cs} {x} g =
+      record {
+        reading =
+            λ r o.
+            record {
+              there =
+                  λ q.
+                  ⊎-elim
+                  (λ i. absurd (due.no-other says told told-says (g i) r o (ap told (sym (needed x e f k i) ∙ q) ∙ told-e r)))
+                  (λ s.
+                  subst (λ (t : Refusal). ByReading k f t)
+                  (sym (told-e (s .0)) ∙ ap told (sym (handed-on x e f k (s .0) (s .1)) ∙ q) ∙ told-e r) (s .1))
+                  (either-way f k);
+              back = handed-on x e f k r;
+            };
+        own =
+            λ n p.
+            record {
+              there =
+                  λ q.
+                  ⊎-elim (λ i. (i, g i .exactly n .there (sym (needed x e f k i) ∙ q)))
+                  (λ s.
+                  let is : s .0 ≡ refused n =
+                  sym (told-e (s .0)) ∙ ap told (sym (handed-on x e f k (s .0) (s .1)) ∙ q) ∙ told-says n in
+                  absurd
+                  (due.refuted (ofReading n) (subst (λ (t : Refusal). T (ofReading (t .number))) is (reading-number f k (s .0) (s .1))) p))
+                  (either-way f k);
+              back = λ h. needed x e f k (h .0) ∙ g (h .0) .exactly n .back (h .1);
+            };
+      }
+
+-- of a refusal that stands beside other values
+pub refusal-after : (k : Needs) (f : List ℕ) {cs : List Condition} {x : Refusal} → (Is k f → due.Gives refused cs x)
+    → AfterReading (λ r. r) refused k f cs (on k x (λ r. r) (readOf f))
+refusal-after = after-reading (λ r. r) refused (λ r. r) (λ r. refl) (λ n. refl)
