@@ -10,7 +10,7 @@ use lib.Dec.{eqb, ltb}
 use lib.ListN.{length}
 use borrow.Author.Tests.{eqb-true, eqb-false, eq-eqb, ne-eqb, ltb-true, lt-ltb}
 use Rattle.base.specs.Bytes.{pick, at}
-use Rattle.frame.specs.Refusals.{notRefused}
+use Rattle.frame.specs.Refusals.{refused, notRefused}
 use Rattle.frame.specs.declared.refusals.Refusal.{Refusal}
 use Rattle.frame.specs.declared.parser.FPort.{FPort}
 use Rattle.frame.specs.declared.parser.FPort.the-variants.{Absent, Port}
@@ -24,7 +24,7 @@ use Rattle.frame_build.specs.declared.creator.data_frame.DataParts.{DataParts}
 use Rattle.frame_build.specs.declared.creator.join.JoinRequestParts.{JoinRequestParts}
 use Rattle.frame_build.specs.declared.creator.join.JoinAcceptParts.{JoinAcceptParts}
 use Rattle.theorems.specs.Exactly.{Exactly, Condition, Due}
-use Rattle.theorems.specs.BuildingConditions.{NotPort0, absent, other, dataConditions, requestConditions, WrongChannels, many, high, NoRoom, bare, with-list, acceptConditions, Answers}
+use Rattle.theorems.specs.BuildingConditions.{NotPort0, absent, other, TooManyCommands, PayloadOnPort0, PayloadWithoutPort, dataConditions, requestConditions, WrongChannels, many, high, WrongList, NoRoom, bare, with-list, acceptConditions, Answers}
 use Rattle.theorems.proofs.refusals.SomeIndex.{SomeAt, if-some}
 use Rattle.theorems.proofs.refusals.FirstDue.{apart, if-when, if-unless, if-not, if-below, if-equal, Gives, plain, none-left, or-else, says-told, no-other, in-answer}
 
@@ -170,3 +170,57 @@ module _ (j : JoinAcceptParts) (channels : List ℕ) (room : ℕ) where
       → Answers (acceptConditions j channels room) (length (joinAccept key j channels))
       (builtOf (joinAcceptRefusal j channels room) (length (joinAccept key j channels)))
   accept-answers key = answers (length (joinAccept key j channels)) (accept-gives j channels room)
+
+-- ---- the numbers of them, written out
+
+module _ (nwk app : List ℕ) (d : DataParts) (commands body : List ℕ) (room : ℕ) where
+  abbrev data-answer : Built
+  data-answer = builtOf (dataRefusal d commands body room) (length (dataFrame nwk app d commands body))
+
+  due-at : (n : ℕ) → 0 < n → Exactly (data-answer ≡ Refused (refused n)) (Due (dataConditions d commands body room) n)
+  due-at = data-answers d commands body room nwk app .refuses
+
+  pub data-7 : Exactly (data-answer ≡ Refused (refused 7)) (room < 255)
+  data-7 = due-at 7 (omega arith)
+
+  pub data-13 : Exactly (data-answer ≡ Refused (refused 13)) ((room < 255 → ⊥) × (d .fctrl % 16 ≡ 0 → ⊥))
+  data-13 = due-at 13 (omega arith)
+
+  pub data-9 : Exactly (data-answer ≡ Refused (refused 9))
+      ((room < 255 → ⊥) × ((d .fctrl % 16 ≡ 0) × TooManyCommands (d .port) commands))
+  data-9 = due-at 9 (omega arith)
+
+  pub data-10 : Exactly (data-answer ≡ Refused (refused 10))
+      ((room < 255 → ⊥)
+      × ((d .fctrl % 16 ≡ 0) × ((TooManyCommands (d .port) commands → ⊥) × PayloadOnPort0 (d .port) body)))
+  data-10 = due-at 10 (omega arith)
+
+  pub data-11 : Exactly (data-answer ≡ Refused (refused 11))
+      ((room < 255 → ⊥)
+      × ((d .fctrl % 16 ≡ 0)
+      × ((TooManyCommands (d .port) commands → ⊥)
+      × ((PayloadOnPort0 (d .port) body → ⊥) × PayloadWithoutPort (d .port) body))))
+  data-11 = due-at 11 (omega arith)
+
+  pub data-12 : Exactly (data-answer ≡ Refused (refused 12))
+      ((room < 255 → ⊥)
+      × ((d .fctrl % 16 ≡ 0)
+      × ((TooManyCommands (d .port) commands → ⊥)
+      × ((PayloadOnPort0 (d .port) body → ⊥)
+      × ((PayloadWithoutPort (d .port) body → ⊥) × (255 < dataLength d commands body))))))
+  data-12 = due-at 12 (omega arith)
+
+pub request-7 : (key : List ℕ) (j : JoinRequestParts) (room : ℕ)
+    → Exactly (builtOf (joinRequestRefusal room) (length (joinRequest key j)) ≡ Refused (refused 7)) (room < 23)
+request-7 key j room = request-answers key j room .refuses 7 (omega arith)
+
+module _ (key : List ℕ) (j : JoinAcceptParts) (channels : List ℕ) (room : ℕ) where
+  abbrev accept-answer : Built
+  accept-answer = builtOf (joinAcceptRefusal j channels room) (length (joinAccept key j channels))
+
+  pub accept-8 : Exactly (accept-answer ≡ Refused (refused 8)) (WrongList (j .«with_c_f_list») channels)
+  accept-8 = accept-answers j channels room key .refuses 8 (omega arith)
+
+  pub accept-7 : Exactly (accept-answer ≡ Refused (refused 7))
+      ((WrongList (j .«with_c_f_list») channels → ⊥) × NoRoom (j .«with_c_f_list») room)
+  accept-7 = accept-answers j channels room key .refuses 7 (omega arith)
