@@ -10,15 +10,10 @@ use lib.Dec.{T, eqb, leb, ltb}
 use lib.ListN.{length}
 use borrow.Author.Tests.{ltb-false, le-ltb, ne-eqb}
 use Rattle.base.specs.Bytes.{pick, at}
-use Rattle.frame.specs.Conditions.{IsData, Gives as GivesReading}
+use Rattle.frame.specs.Conditions.{IsData}
 use Rattle.frame.specs.Layout.{fcnt, payload, micOf}
-use Rattle.frame.specs.Reading.{readOf}
-use Rattle.frame.specs.ReadingNumbers.{onData}
 use Rattle.frame.specs.Refusals.{refused, notRefused}
 use Rattle.frame.specs.declared.refusals.Refusal.{Refusal}
-use Rattle.frame.specs.declared.parser.Reading.{Reading}
-use Rattle.frame.specs.declared.parser.Reading.the-variants.{JoinRequest, JoinAccept, Data, Refused}
-use Rattle.frame.proofs.ReadingLaws.{Says, answers}
 use Rattle.frame_security.specs.Mic.{sameBytes}
 use Rattle.frame_security.specs.Security.{covered, dataMic}
 use Rattle.frame_security.proofs.MicCompared.{same-of-test, test-of-same}
@@ -38,8 +33,7 @@ use Rattle.theorems.specs.ByReading.{data-frame, AfterReading}
 use Rattle.theorems.specs.OpeningConditions.{RightDataMic}
 use Rattle.theorems.specs.AmendingConditions.{Outside, outside, openThen, openConditions, amendConditions, listConditions, frameConditions, takenConditions}
 use Rattle.theorems.proofs.refusals.FirstDue.{if-when, if-unless, if-not, if-below, if-most, if-equal, fresh, Gives, through, nothing-left, past, refuses}
-use Rattle.theorems.proofs.refusals.ReadFirst.{on, on-through, refusal-after}
-use Rattle.theorems.proofs.refusals.ReadingRefusals.{not-none}
+use Rattle.theorems.proofs.refusals.ReadFirst.{on-through, refusal-after}
 use Rattle.theorems.proofs.refusals.SomeIndex.{if-some}
 
 -- ---- what the tests tell
@@ -94,7 +88,7 @@ module _ (f nwk app : List ℕ) (counter : ℕ) where
   pub opening : AfterReading (λ r. r) refused data-frame f (openConditions nwk counter f) (openOf f nwk app counter .refusal)
   unfolding openOf
   opening =
-      rw (on-through (λ (o : Opened). o .refusal) data-frame (openData f nwk app counter) refusedOpening (readOf f))
+      rw (on-through (λ (o : Opened). o .refusal) data-frame f (openData f nwk app counter) refusedOpening (λ r. r) (λ r n. refl))
       (refusal-after data-frame f (λ i. opened-gives f nwk app counter (λ o. o .refusal) (λ n. refl) tt tt nothing-left))
 
 -- ---- amending an open frame, in every state
@@ -131,14 +125,6 @@ module _ (f nwk app : List ℕ) (counter : ℕ) (es : List ℕ) where
   unfolding then-list
   refused-first r n = ap (λ (b : Bool). pick b (amendAll (refusedOpening r .state) es .refusal) r) (ne-eqb (r .number) 0 n)
 
-  -- and so does a refused reading
-  by-reading : (r : Reading) → Says f r
-      → then-list (onData (λ d. openData f nwk app counter) refusedOpening r) ≡ on data-frame (then-list (openData f nwk app counter)) (λ s. s) r
-  by-reading JoinRequest s = refused-first (refused 4) (λ e. omega arith)
-  by-reading (JoinAccept n) s = refused-first (refused 4) (λ e. omega arith)
-  by-reading (Data d) s = refl
-  by-reading (Refused r) s = refused-first r (λ e. not-none f (subst (λ (n : ℕ). GivesReading f n) e (s .0)))
-
   -- past the opening it goes by the list, in the payload of the frame
   list-then : IsData f → Gives refused (15 when Outside (length (payload f)) es ∷ []) (then-list (acceptedOpening (openedOf f nwk app counter)))
   unfolding then-list
@@ -152,8 +138,7 @@ module _ (f nwk app : List ℕ) (counter : ℕ) (es : List ℕ) where
   pub amending-frame : AfterReading (λ r. r) refused data-frame f (frameConditions nwk counter f es) (amendFrameOf f nwk app counter es)
   unfolding amendFrameOf openOf then-list
   amending-frame =
-      subst (λ (r : Refusal). AfterReading (λ s. s) refused data-frame f (frameConditions nwk counter f es) r)
-      (sym (by-reading (readOf f) (answers f)))
+      rw (on-through then-list data-frame f (openData f nwk app counter) refusedOpening (λ r. r) refused-first)
       (refusal-after data-frame f
       (λ i. opened-gives f nwk app counter then-list (λ n. refused-first (refused (suc n)) (λ e. omega arith)) tt tt (list-then i)))
 

@@ -124,7 +124,7 @@ opens-after : (k : Needs) (f : List ℕ) {cs : List Condition} (x : Result) → 
     → AfterReading Refused openingOf k f cs (on k x (unopened f) (readOf f) .answer)
 unfolding opening-told
 opens-after k f x g =
-    rw (on-through (λ (r : Result). r .answer) k x (unopened f) (readOf f))
+    rw (on-through (λ (r : Result). r .answer) k f x (unopened f) Refused (λ r n. refl))
     (after-reading Refused openingOf opening-told (λ r. refl) told-opening k f g)
 
 -- by a key that may not be given
@@ -290,17 +290,17 @@ values-after k f = refusal-after k f (λ i. no-more refused (λ r. r) (λ n. ref
 pub session-keys : (key devNonce f : List ℕ) → AfterReading (λ r. r) refused join-accept f [] (sessionKeys key devNonce f .refusal)
 unfolding sessionKeys derivedKeys noKeys
 session-keys key devNonce f =
-    rw (on-through (λ (s : SessionKeys). s .refusal) join-accept (derivedKeys key devNonce f) noKeys (readOf f))
+    rw (on-through (λ (s : SessionKeys). s .refusal) join-accept f (derivedKeys key devNonce f) noKeys (λ r. r) (λ r n. refl))
     (values-after join-accept f)
 
 pub request-fields : (f : List ℕ) → AfterReading (λ r. r) refused join-request f [] (joinRequestFields f .refusal)
 unfolding requestFields noRequest
 request-fields f =
-    rw (on-through (λ (s : JoinRequestFields). s .refusal) join-request (requestFields f) noRequest (readOf f))
+    rw (on-through (λ (s : JoinRequestFields). s .refusal) join-request f (requestFields f) noRequest (λ r. r) (λ r n. refl))
     (values-after join-request f)
 
 pub accept-fields : (f : List ℕ) → AfterReading (λ r. r) refused join-accept f [] (joinAcceptFields f .refusal)
 unfolding acceptFields noAccept
 accept-fields f =
-    rw (on-through (λ (s : JoinAcceptFields). s .refusal) join-accept (acceptFields f) noAccept (readOf f))
+    rw (on-through (λ (s : JoinAcceptFields). s .refusal) join-accept f (acceptFields f) noAccept (λ r. r) (λ r n. refl))
     (values-after join-accept f)

@@ -27,22 +27,6 @@ on join-request x e r = onRequest x e r
 on join-accept x e r = onAccept (λ n. x) e r
 on data-frame x e r = onData (λ d. x) e r
 
--- a part of what it gives
-pub on-through : {A B : Type 0} (h : A → B) (k : Needs) (x : A) (e : Refusal → A) (r : Reading)
-    → h (on k x e r) ≡ on k (h x) (λ s. h (e s)) r
-on-through h join-request x e JoinRequest = refl
-on-through h join-request x e (JoinAccept n) = refl
-on-through h join-request x e (Data d) = refl
-on-through h join-request x e (Refused r) = refl
-on-through h join-accept x e JoinRequest = refl
-on-through h join-accept x e (JoinAccept n) = refl
-on-through h join-accept x e (Data d) = refl
-on-through h join-accept x e (Refused r) = refl
-on-through h data-frame x e JoinRequest = refl
-on-through h data-frame x e (JoinAccept n) = refl
-on-through h data-frame x e (Data d) = refl
-on-through h data-frame x e (Refused r) = refl
-
 -- ---- which frames are needed, and what reading gives of the others
 
 module _ (f : List ℕ) where
@@ -125,6 +109,17 @@ module _ {A : Type 0} (x : A) (e : Refusal → A) (f : List ℕ) where
   pub handed-on : (k : Needs) (r : Refusal) → ByReading k f r → on k x e (readOf f) ≡ e r
   handed-on k r (keeps q) = ap (on k x e) q ∙ keeps-refusal k r
   handed-on k r (other p n q) = other-gives k (readOf f) (answers f) p n ∙ ap e (sym q)
+
+-- a part of what the call gives
+pub on-through : {A B : Type 0} (h : A → B) (k : Needs) (f : List ℕ) (x : A) (e : Refusal → A) (e′ : Refusal → B)
+    → ((r : Refusal) → (r .number ≡ 0 → ⊥) → h (e r) ≡ e′ r) → h (on k x e (readOf f)) ≡ on k (h x) e′ (readOf f)
+on-through h k f x e e′ found =
+    ⊎-elim (λ i. ap h (needed x e f k i) ∙ sym (needed (h x) e′ f k i))
+    (λ s.
+    ap h (handed-on x e f k (s .0) (s .1))
+    ∙ found (s .0) (λ z. rw z at (reading-number f k (s .0) (s .1)))
+    ∙ sym (handed-on (h x) e′ f k (s .0) (s .1)))
+    (either-way f k)
 
 -- ---- the law
 

@@ -86,7 +86,7 @@ module _ (f : List ℕ) where
   not-both n (of3 e g) p = omega arith
   not-both n (of4 e g) p = p .not-4 (g .wrong)
 
-  pub not-none : Gives f 0 → ⊥
+  not-none : Gives f 0 → ⊥
   not-none (of12 e g) = omega arith
   not-none (of1 e g) = omega arith
   not-none (of2 e g) = omega arith
