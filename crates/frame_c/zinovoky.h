@@ -6,7 +6,7 @@
  *
  *    1 InvalidPayload            fewer than 12 bytes
  *    2 UnsupportedMajorVersion   the low two bits of byte 0 are not 00
- *    3 InvalidMessageType        type 6 or 7
+ *    3 InvalidMessageType        type 6 or 7, or, of a data frame to build, above 5
  *    4 InvalidData               a length that is wrong for the type, or a frame of another type than the call needs
  *    5 InvalidMic                the MIC differs
  *    6 InvalidKey                the key that the port selects was not given
@@ -77,6 +77,10 @@ uint64_t zinovoky_join_request_fields(const uint8_t *frame, size_t frame_len, ui
  * frequencies in units of 100 Hz, of four bytes each, low byte first. A list that it does not hold is zeros. */
 uint64_t zinovoky_join_accept_fields(const uint8_t *frame, size_t frame_len, uint8_t *fields, size_t fields_len);
 
+/* NwkID of an address of four bytes in frame order, as it stands in a data frame from place 1 on or among the fields of a
+ * join-accept: its seven high bits, 0 to 127. The answer is NwkID itself; every address has one, so there is no refusal. */
+uint8_t zinovoky_nwk_id(const uint8_t *dev_addr);
+
 /* Tests the MIC of a join-request, of a join-accept that is given clear, and of a data frame. `passes` becomes
  * 1 or 0; where the call answers a refusal it stays as it was. */
 uint64_t zinovoky_join_request_mic(const uint8_t *frame, size_t frame_len, const uint8_t *app_key, uint8_t *passes);
@@ -105,8 +109,9 @@ uint64_t zinovoky_build_join_request(const uint8_t *app_eui, const uint8_t *dev_
  * at. */
 uint64_t zinovoky_build_join_accept(const uint8_t *fixed, uint8_t with_list, const uint32_t *channels, size_t channels_len, const uint8_t *app_key, uint8_t *out, size_t out_len);
 
-/* Builds a data frame. `kind` is the type: 2 unconfirmed up, 3 unconfirmed down, 4 confirmed up, 5 confirmed down (another
- * number answers 3). `port` is 0 to 255, and a number above 255 says that there is no port. */
+/* Builds a data frame. `kind` is the type: 2 unconfirmed up, 3 unconfirmed down, 4 confirmed up, 5 confirmed down. Ahead of
+ * every other test, 0 and 1, the join messages, answer 4, and a number above 5 answers 3. `port` is 0 to 255, and a number
+ * above 255 says that there is no port. */
 uint64_t zinovoky_build_data(uint8_t kind, const uint8_t *dev_addr, uint8_t fctrl, uint32_t counter, uint16_t port, const uint8_t *commands, size_t commands_len, const uint8_t *payload, size_t payload_len, const uint8_t *nwk_skey, const uint8_t *app_skey, uint8_t *out, size_t out_len);
 
 /* Amends payload bytes of a data frame where it lies. Each amendment is offset * 256 + value, the value clear. The first

@@ -6,7 +6,7 @@ use Prim.Native.Nat.{ℕ, _+_, _-_, _%_, _≤_}
 use native.Mathlib.Omega.{arith}
 use lib.ListN.{length, length-append}
 use lib.Seq.{sets}
-use Rattle.base.specs.Bytes.{at, part}
+use Rattle.base.specs.Bytes.{at, part, fourBytes, fromFourBytes}
 use Rattle.base.proofs.Lent.{part-long}
 use Rattle.base.proofs.Put.{sets-append}
 use Rattle.base.proofs.StoringLaws.{run-inside}
@@ -14,7 +14,7 @@ use Rattle.base.specs.Storing.{runAt}
 use Rattle.amend.specs.declared.amending.Open.{Open}
 use Rattle.amend.specs.Amending.{openState}
 use Rattle.amend.proofs.ListLaws.{whole-stored}
-use Rattle.amend_held.specs.HeldBuffer.{fourBytes, fromFourBytes, storedOpen, loadedOpen}
+use Rattle.amend_held.specs.HeldBuffer.{storedOpen, loadedOpen}
 
 -- a run of bytes that is copied over a whole array
 pub copied : (z f : List ℕ) (at n : ℕ) {e : List ℕ} → length z ≡ n → at + n ≤ length f → e ≡ sets z 0 (part at (at + n - at) f)

@@ -7,12 +7,12 @@ use Prim.Native.Nat.{ℕ, _+_, _*_, _/_, _%_, _≤_, _<_}
 use native.Mathlib.Omega.{arith}
 use lib.ListN.{length, take, drop, length-drop, List·getD-append}
 use lib.Seq.{take-all, take-suc, take-at, drop-at, take-append-le, drop-append-le, take-add, getD-at}
-use Rattle.base.specs.Bytes.{at, part, AreBytes}
+use Rattle.base.specs.Bytes.{at, part, fourBytes, fromFourBytes, AreBytes}
 use Rattle.base.proofs.Lent.{part-long}
 use Rattle.base.proofs.Parts.{part-tab, bytes-part}
 use Rattle.amend.specs.declared.amending.Open.{Open}
 use Rattle.amend.specs.Amending.{openState}
-use Rattle.amend_held.specs.HeldBuffer.{fourBytes, fromFourBytes, storedOpen, loadedOpen}
+use Rattle.amend_held.specs.HeldBuffer.{storedOpen, loadedOpen}
 use Rattle.amend_held.proofs.HeldLaws.{Sized, one-long, two-long, three-long, four-long}
 
 -- a part that lies in the first of two strings, and one that is the second

@@ -4,17 +4,10 @@
 -- `loaded-stored` and `stored-loaded` in proofs/HeldUndone.antt say that the two definitions undo each other.
 -- Assumes nothing.
 use mathlib.Core.List.{List, [], _∷_, _++_}
-use Prim.Native.Nat.{ℕ, _+_, _*_, _/_, _%_}
-use Rattle.base.specs.Bytes.{at, part}
+use Prim.Native.Nat.{ℕ, _%_}
+use Rattle.base.specs.Bytes.{at, part, fourBytes, fromFourBytes}
 use Rattle.amend.specs.declared.amending.Open.{Open}
 use Rattle.amend.specs.Amending.{openState}
-
--- a number of 32 bits in four bytes, low byte first, and back
-abbrev pub fourBytes : ℕ → List ℕ
-fourBytes n = (n % 256) ∷ (n / 256 % 256) ∷ (n / 65536 % 256) ∷ (n / 16777216 % 256) ∷ []
-
-abbrev pub fromFourBytes : List ℕ → ℕ
-fromFourBytes c = at c 0 + at c 1 * 256 + at c 2 * 65536 + at c 3 * 16777216
 
 -- a state as a buffer holds it
 unfoldable pub storedOpen : Open → List ℕ

@@ -3,10 +3,11 @@ ghost use mathlib.Core.Path.{_≡_};
 ghost use mathlib.Core.List.{[], _∷_};
 ghost use Prim.Native.Nat.{_+_, _≤_};
 ghost use lib.ListN.{length};
-ghost use Rattle.base.specs.Bytes.{part};
-ghost use Rattle.amend_held.specs.HeldBuffer.{storedOpen, loadedOpen, fourBytes, fromFourBytes};
+ghost use Rattle.base.specs.Bytes.{part, fromFourBytes};
+ghost use Rattle.amend_held.specs.HeldBuffer.{storedOpen, loadedOpen};
 use amend::amending::Open;
 use base::storing::four_at;
+use base::storing::four_bytes;
 use base::storing::put;
 use base::storing::wide;
 
@@ -22,18 +23,7 @@ const CHAINS_AT: usize = 608;
 
 const COUNTER_AT: usize = 864;
 
-// A counter in four bytes, low byte first, and back.
-fn counter_bytes(counter: u32) -> [u8; 4]
-    ensures { λ r. ⌜ r ≡ fourBytes counter ⌝ }
-{
-    [
-        (counter % 256) as u8,
-        (counter / 256 % 256) as u8,
-        (counter / 65536 % 256) as u8,
-        (counter / 16777216 % 256) as u8,
-    ]
-}
-
+// The counter of its four bytes, low byte first.
 fn counter_from(a: u8, b: u8, c: u8, d: u8) -> u32
     ensures { λ r. ⌜ r ≡ fromFourBytes (a ∷ b ∷ c ∷ d ∷ []) ⌝ }
 {
@@ -100,7 +90,7 @@ pub(crate) fn store(state: Open) -> [u8; 868]
     let app_schedule = state.app_schedule;
     let chains = state.chains;
     let length = [(state.length % 256) as u8];
-    let counter = counter_bytes(state.counter);
+    let counter = four_bytes(state.counter);
     let mut out = [0u8; 868];
     put(&mut out, 0, &frame);
     put(&mut out, LENGTH_AT, &length);

@@ -1,9 +1,9 @@
 -- Bytes and strings of bytes, as the definitions of every layer speak of them: a choice, a list given by what stands
--- at each index, the byte at an index, and exclusive or.
+-- at each index, the byte at an index, numbers of four bytes, and exclusive or.
 -- Assumes nothing.
 use mathlib.Core.Bool.{Bool, true, false}
 use mathlib.Core.List.{List, [], _∷_}
-use Prim.Native.Nat.{ℕ, zero, suc, _<_}
+use Prim.Native.Nat.{ℕ, zero, suc, _+_, _*_, _/_, _%_, _<_}
 use lib.ListN.{getD, take, drop, replicate}
 use lib.Bits.{bitXor}
 
@@ -24,6 +24,13 @@ at s i = getD s i 0
 -- the n bytes from index i on
 abbrev pub part : ℕ → ℕ → List ℕ → List ℕ
 part i n s = take n (drop i s)
+
+-- a number of 32 bits in four bytes, low byte first, and back
+abbrev pub fourBytes : ℕ → List ℕ
+fourBytes n = (n % 256) ∷ (n / 256 % 256) ∷ (n / 65536 % 256) ∷ (n / 16777216 % 256) ∷ []
+
+abbrev pub fromFourBytes : List ℕ → ℕ
+fromFourBytes s = at s 0 + at s 1 * 256 + at s 2 * 65536 + at s 3 * 16777216
 
 -- n zeros
 abbrev pub zeros : ℕ → List ℕ

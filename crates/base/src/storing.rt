@@ -4,7 +4,7 @@ ghost use mathlib.Core.Path.{_≡_};
 ghost use Prim.Native.Nat.{_+_, _≤_};
 ghost use lib.Dec.{ltb};
 ghost use lib.ListN.{length, take};
-ghost use Rattle.base.specs.Bytes.{at, part};
+ghost use Rattle.base.specs.Bytes.{at, part, fourBytes};
 ghost use Rattle.base.specs.Storing.{Put, Stored, runAt};
 
 // Whether any of `count` bytes from `at` on lies outside `total`.
@@ -61,6 +61,18 @@ pub fn wide(b: u8) -> usize
     ensures { λ r. ⌜ r ≡ b ⌝ }
 {
     b as usize
+}
+
+// A number in four bytes, low byte first.
+pub fn four_bytes(n: u32) -> [u8; 4]
+    ensures { λ r. ⌜ r ≡ fourBytes n ⌝ }
+{
+    [
+        (n % 256) as u8,
+        (n / 256 % 256) as u8,
+        (n / 65536 % 256) as u8,
+        (n / 16777216 % 256) as u8,
+    ]
 }
 
 fn three_from(bytes: &[u8], from: usize) -> [u8; 3]

@@ -2,10 +2,11 @@
 -- and what a message type (4.2.1) and an address (6.1.1) say.
 -- Assumes nothing.
 use mathlib.Core.Bool.{Bool, true, false}
+use mathlib.Core.List.{List}
 use Prim.Native.Nat.{ℕ, _/_, _%_}
 use lib.Dec.{eqb}
 use lib.Bits.{bitOr}
-use Rattle.base.specs.Bytes.{pick}
+use Rattle.base.specs.Bytes.{pick, fromFourBytes}
 use Rattle.frame.specs.declared.fctrl.FCtrl.{FCtrl}
 
 abbrev pub fctrlOf : ℕ → Bool → FCtrl
@@ -42,6 +43,6 @@ uplinkOf m = pick (eqb m 2) true (eqb m 4)
 abbrev pub confirmedOf : ℕ → Bool
 confirmedOf m = pick (eqb m 4) true (eqb m 5)
 
--- NwkID, as the crate has it: the seven high bits of the address's first byte
-abbrev pub nwkIdOf : ℕ → ℕ
-nwkIdOf b = b / 2
+-- 6.1.1 NwkID is bits 31 to 25 of the address, a number of 32 bits that stands low byte first in the frame; 33,554,432 is 2^25
+abbrev pub nwkIdOf : List ℕ → ℕ
+nwkIdOf devAddr = fromFourBytes devAddr / 33554432

@@ -48,6 +48,12 @@ unfoldable pub cfListOf : List ℕ → CfList
 cfListOf f =
     pick (eqb (length f) 33) (pick (eqb (cfListType f) 0) Frequencies (pick (eqb (cfListType f) 1) Masks Absent)) Absent
 
+-- its number: 0 none, 1 frequencies, 2 masks
+abbrev pub listNumber : CfList → ℕ
+listNumber Absent = 0
+listNumber Frequencies = 1
+listNumber Masks = 2
+
 -- a channel's frequency, in units of 100 Hz: three bytes, low byte first
 abbrev pub frequencyAt : List ℕ → ℕ → ℕ
 frequencyAt f a = at f a + at f (a + 1) * 256 + at f (a + 2) * 65536

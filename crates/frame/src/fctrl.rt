@@ -3,7 +3,6 @@
 ghost use mathlib.Core.Path.{_≡_};
 ghost use Prim.Native.Nat.{_/_, _%_, _<_};
 ghost use lib.Dec.{eqb};
-ghost use Rattle.base.specs.Bytes.{at};
 ghost use Rattle.frame.specs.Fctrl.{fctrlOf, adrOf, adrAckReqOf, ackOf, fPendingOf, fOptsLenOf, withBitOf, uplinkOf, confirmedOf, nwkIdOf};
 
 // FCtrl of a data frame (4.3.1): its byte, and whether the frame goes up.
@@ -114,11 +113,12 @@ pub fn is_confirmed(mtype: u8) -> bool
     mtype == 5
 }
 
-// NwkID of an address in frame order, as the crate takes it: the seven high bits of its first byte.
+// NwkID of an address (6.1.1): its seven high bits, which stand in its last byte in frame order. The crate takes the first byte
+// (docs/DIFFERENCES.md).
 pub fn nwk_id(dev_addr: [u8; 4]) -> u8
-    ensures { λ r. ⌜ r ≡ nwkIdOf (at «dev_addr» 0) ⌝ }
+    ensures { λ r. ⌜ r ≡ nwkIdOf «dev_addr» ⌝ }
 {
-    dev_addr[0] >> 1
+    dev_addr[3] >> 1
 }
 
 // The message type of a frame's first byte (4.2.1): its three high bits.

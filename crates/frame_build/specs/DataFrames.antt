@@ -22,6 +22,15 @@ dataFrame nwk app d commands body = sealed nwk app (d .fcnt) (dataHeader d comma
 abbrev pub builtOf : ℕ → ℕ → Built
 builtOf refusal n = pick (eqb refusal 0) (Frame n) (Refused (refused refusal))
 
+-- its number (0 where a frame was built), and its value: the frame's length, or the refusal's place
+abbrev pub builtNumber : Built → ℕ
+builtNumber (Frame n) = 0
+builtNumber (Refused r) = r .number
+
+abbrev pub builtValue : Built → ℕ
+builtValue (Frame n) = n
+builtValue (Refused r) = r .place
+
 -- what the output holds afterwards: nothing changed by a refusal; else the frame, then the bytes that were there
 abbrev pub outOf : ℕ → List ℕ → List ℕ → List ℕ
 outOf refusal frame out = pick (eqb refusal 0) (frame ++ drop (length frame) out) out

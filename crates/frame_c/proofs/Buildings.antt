@@ -1,14 +1,19 @@
--- A building's promise, with its answer as a number; and the kinds of data frame, of which any other number is refused
--- before anything is built.
+-- A building's promise, with its answer as a number; and the kinds of data frame: any other number is refused before
+-- anything is built.
 -- Assumes nothing.
 use mathlib.Core.Path.{_≡_, sym, ap, _∙_}
-use mathlib.Core.List.{List}
+use mathlib.Core.Bool.{Bool, false}
+use mathlib.Core.List.{List, _++_}
 use Prim.Native.Nat.{ℕ, _<_, _≤_}
-use lib.ListN.{length}
+use lib.Dec.{eqb}
+use lib.ListN.{length, drop}
 use borrow.Author.Tests.{lt-ltb, le-ltb}
+use Rattle.base.specs.Bytes.{pick}
+use Rattle.frame.specs.Refusals.{refused}
 use Rattle.frame_build.specs.DataBuilding.{dataRefusal}
 use Rattle.frame_build.specs.DataFrames.{builtOf, outOf, Builds as BuildsFrame}
 use Rattle.frame_build.specs.declared.creator.Built.{Built}
+use Rattle.frame_build.specs.declared.creator.Built.the-variants.{Frame, Refused}
 use Rattle.frame_build.specs.declared.creator.data_frame.DataParts.{DataParts}
 use Rattle.frame_c.specs.CAnswers.{cAnswer, builtAnswer, BuildsInC}
 use Rattle.frame_c.specs.CGiven.{dataRefused}
@@ -24,15 +29,17 @@ made {n} {m} {f} {g} {l} {e} {b} {r} p q s a =
       output = p .output ∙ ap (λ (k : ℕ). outOf k f l) q ∙ ap (λ (h : List ℕ). outOf m h l) s;
     }
 
--- a refusal by 3, which changes nothing
-pub refused-kind : {n : ℕ} {f l : List ℕ} {r : ℕ} → n ≡ 3 → r ≡ cAnswer 3 0 → BuildsInC n f l r l
-refused-kind {n} {f} {l} {r} q a =
+-- a refusal by a number that is not 0, which changes nothing
+pub refused-kind : (k : ℕ) {n : ℕ} {f l : List ℕ} {r : ℕ} → eqb k 0 ≡ false → n ≡ k → r ≡ cAnswer k 0 → BuildsInC n f l r l
+refused-kind k {n} {f} {l} {r} z q a =
     record {
-      answer = a ∙ ap (λ (k : ℕ). builtAnswer (builtOf k (length f))) (sym q);
-      output = ap (λ (k : ℕ). outOf k f l) (sym q);
+      answer =
+          a ∙ ap (λ (t : Bool). builtAnswer (pick t (Frame (length f)) (Refused (refused k)))) (sym z)
+          ∙ ap (λ (m : ℕ). builtAnswer (builtOf m (length f))) (sym q);
+      output = ap (λ (t : Bool). pick t (f ++ drop (length f) l) l) (sym z) ∙ ap (λ (m : ℕ). outOf m f l) (sym q);
     }
 
-pub below-data : (k : ℕ) (d : DataParts) (cs p : List ℕ) (n : ℕ) → k < 2 → dataRefused k d cs p n ≡ 3
+pub below-data : (k : ℕ) (d : DataParts) (cs p : List ℕ) (n : ℕ) → k < 2 → dataRefused k d cs p n ≡ 4
 unfolding dataRefused
 below-data k d cs p n h = simp (lt-ltb _ _ h)
 

@@ -1,4 +1,5 @@
 mod Buildings
+mod FieldBytes
 mod Fillings
 mod Opened
 pub mod StoredLaws

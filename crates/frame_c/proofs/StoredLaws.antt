@@ -35,15 +35,14 @@ refused {n} {p} {x} {b} {l} {r} e h a =
       output = sym (ap (λ (t : Bool). pick t (b ++ drop (length b) l) l) (ne-eqb n 0 (λ z. h (e ∙ z))));
     }
 
-pub stored : (m k : ℕ) {p x : ℕ} {b s l e : List ℕ} {r j : ℕ} → x ≡ orShort m k (length l) → x ≡ 0 → length s ≡ k → s ≡ b
+pub stored : (m k : ℕ) {p x : ℕ} {b l e : List ℕ} {r j : ℕ} → x ≡ orShort m k (length l) → x ≡ 0 → length b ≡ k
     → r ≡ cAnswer 0 p
-    → Put l 0 s j e
+    → Put l 0 b j e
     → Fills (orShort m k (length l)) p b l r e
-stored m k {p} {x} {b} {s} {l} {e} {r} {j} u z w h a put =
+stored m k {p} {x} {b} {l} {e} {r} {j} u z w a put =
     let none : orShort m k (length l) ≡ 0 = sym u ∙ z in
-    let room : length s ≤ length l = omega (arith, w, room-left m k (length l) u z) in
+    let room : length b ≤ length l = omega (arith, w, room-left m k (length l) u z) in
     record {
       answer = a ∙ ap (λ (n : ℕ). cAnswer n p) (sym none);
-      output =
-          put-front put room ∙ ap (λ (t : List ℕ). t ++ drop (length t) l) h ∙ ap (λ (n : ℕ). outOf n b l) (sym none);
+      output = put-front put room ∙ ap (λ (n : ℕ). outOf n b l) (sym none);
     }

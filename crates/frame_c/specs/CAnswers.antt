@@ -7,9 +7,8 @@ use mathlib.Core.List.{List}
 use Prim.Native.Nat.{ℕ, _+_, _*_, _%_}
 use lib.Dec.{ltb, eqb}
 use Rattle.base.specs.Bytes.{pick}
-use Rattle.frame_build.specs.DataFrames.{outOf, builtOf}
+use Rattle.frame_build.specs.DataFrames.{outOf, builtOf, builtNumber, builtValue}
 use Rattle.frame_build.specs.declared.creator.Built.{Built}
-use Rattle.frame_build.specs.declared.creator.Built.the-variants.{Frame, Refused as RefusedBuilding}
 use Rattle.frame_opening.specs.FrameOpening.{testNumber, testPlace, openingNumber, openingPlace}
 use Rattle.frame_opening.specs.declared.mic_tests.MicTest.{MicTest}
 use Rattle.frame_opening.specs.declared.mic_tests.MicTest.the-variants.{Passes, Fails, Refused}
@@ -37,14 +36,6 @@ abbrev pub openingAnswer : Opening → ℕ
 openingAnswer o = cAnswer (openingNumber o) (openingPlace o)
 
 -- a building: the frame's length, or the number and the place of the refusal
-abbrev pub builtNumber : Built → ℕ
-builtNumber (Frame n) = 0
-builtNumber (RefusedBuilding r) = r .number
-
-abbrev pub builtValue : Built → ℕ
-builtValue (Frame n) = n
-builtValue (RefusedBuilding r) = r .place
-
 abbrev pub builtAnswer : Built → ℕ
 builtAnswer b = cAnswer (builtNumber b) (builtValue b)
 

@@ -1,5 +1,5 @@
 -- What the codec's calls take of the numbers and bytes that a caller in C gives: keys that may be given, the parts of a frame to
--- build, and the refusal of a type that is not one of data.
+-- build, and the refusals of a type that is not one of data.
 -- Assumes nothing.
 use mathlib.Core.Bool.{Bool}
 use mathlib.Core.List.{List, [], _∷_}
@@ -54,7 +54,7 @@ abbrev pub requestParts : List ℕ → List ℕ → List ℕ → JoinRequestPart
 requestParts appEui devEui devNonce =
     record { «app_eui» = appEui; «dev_eui» = devEui; «dev_nonce» = devNonce }
 
--- 3 where the type is not one of data, 2 to 5; then what building refuses
+-- 4 where the type is that of a join message, 0 or 1, which other calls build; 3 where it is above 5; then what building refuses
 unfoldable pub dataRefused : ℕ → DataParts → List ℕ → List ℕ → ℕ → ℕ
 dataRefused kind d commands payload room =
-    pick (ltb kind 2) 3 (pick (ltb 5 kind) 3 (dataRefusal d commands payload room))
+    pick (ltb kind 2) 4 (pick (ltb 5 kind) 3 (dataRefusal d commands payload room))

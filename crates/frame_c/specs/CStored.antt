@@ -2,15 +2,13 @@
 -- of a clear join-accept in 42.
 -- Assumes nothing.
 use mathlib.Core.List.{List, [], _∷_, _++_}
-use Prim.Native.Nat.{ℕ}
+use Prim.Native.Nat.{ℕ, zero, suc}
 use lib.ListN.{length}
-use Rattle.base.specs.Bytes.{tab, at}
+use Rattle.base.specs.Bytes.{at, fourBytes}
 use Rattle.frame.specs.declared.refusals.Refusal.{Refusal}
-use Rattle.frame.specs.declared.join_fields.CfList.{CfList}
-use Rattle.frame.specs.declared.join_fields.CfList.the-variants.{Absent, Frequencies, Masks}
+use Rattle.frame.specs.JoinFields.{listNumber}
 use Rattle.frame.specs.declared.join_fields.JoinRequestFields.{JoinRequestFields}
 use Rattle.frame.specs.declared.join_fields.JoinAcceptFields.{JoinAcceptFields}
-use Rattle.amend_held.specs.HeldBuffer.{fourBytes}
 use Rattle.frame_opening.specs.declared.join_accept.SessionKeys.{SessionKeys}
 use Rattle.frame_c.specs.CAnswers.{orShort, Fills}
 
@@ -24,32 +22,22 @@ abbrev pub KeysInto : SessionKeys → List ℕ → ℕ → List ℕ → Type 0
 KeysInto k l r e = StoredInto (k .refusal) 32 (k .«nwk_skey» ++ k .«app_skey») l r e
 
 -- a join-request: AppEUI, DevEUI, DevNonce, MIC
-unfoldable pub requestEuis : JoinRequestFields → List ℕ
-requestEuis j = tab 8 (at (j .«app_eui»)) ++ tab 8 (at (j .«dev_eui»))
-
-unfoldable pub requestEnd : JoinRequestFields → List ℕ
-requestEnd j = tab 2 (at (j .«dev_nonce»)) ++ tab 4 (at (j .mic))
+unfoldable pub requestBytes : JoinRequestFields → List ℕ
+requestBytes j = j .«app_eui» ++ j .«dev_eui» ++ j .«dev_nonce» ++ j .mic
 
 abbrev pub RequestInto : JoinRequestFields → List ℕ → ℕ → List ℕ → Type 0
-RequestInto j l r e = StoredInto (j .refusal) 22 (requestEuis j ++ requestEnd j) l r e
+RequestInto j l r e = StoredInto (j .refusal) 22 (requestBytes j) l r e
 
--- which list a join-accept holds: 0 none, 1 frequencies, 2 masks
-abbrev pub listNumber : CfList → ℕ
-listNumber Absent = 0
-listNumber Frequencies = 1
-listNumber Masks = 2
+-- the first n of some numbers, each in four bytes
+unfoldable pub fourEach : ℕ → List ℕ → List ℕ
+fourEach zero q = []
+fourEach (suc n) q = fourEach n q ++ fourBytes (at q n)
 
--- five frequencies, of four bytes each
-unfoldable pub frequencyBytes : List ℕ → List ℕ
-frequencyBytes q = fourBytes (at q 0) ++ fourBytes (at q 1) ++ fourBytes (at q 2) ++ fourBytes (at q 3) ++ fourBytes (at q 4)
-
--- a clear join-accept: AppNonce, NetID, DevAddr, DLSettings, RxDelay, which list it holds, nine masks; then the frequencies
-unfoldable pub acceptFixed : JoinAcceptFields → ℕ → List ℕ
-acceptFixed j list =
-    tab 3 (at (j .«app_nonce»)) ++ tab 3 (at (j .«net_id»)) ++ tab 4 (at (j .«dev_addr»))
-    ++ (j .«dl_settings» ∷ j .«rx_delay» ∷ list ∷ [])
-    ++ tab 9 (at (j .masks))
+-- a clear join-accept: AppNonce, NetID, DevAddr, DLSettings, RxDelay, which list it holds, nine masks; then five frequencies
+unfoldable pub acceptFixed : JoinAcceptFields → List ℕ
+acceptFixed j =
+    j .«app_nonce» ++ j .«net_id» ++ j .«dev_addr» ++ (j .«dl_settings» ∷ j .«rx_delay» ∷ listNumber (j .«cf_list») ∷ [])
+    ++ j .masks
 
 abbrev pub AcceptInto : JoinAcceptFields → List ℕ → ℕ → List ℕ → Type 0
-AcceptInto j l r e =
-    StoredInto (j .refusal) 42 (acceptFixed j (listNumber (j .«cf_list»)) ++ frequencyBytes (j .frequencies)) l r e
+AcceptInto j l r e = StoredInto (j .refusal) 42 (acceptFixed j ++ fourEach 5 (j .frequencies)) l r e

@@ -10,6 +10,7 @@ use crate::conversions::answers::answer;
 use crate::conversions::building::accept_parts;
 use crate::conversions::building::built_answer;
 use crate::conversions::building::data_parts;
+use frame::refusals::INVALID_DATA;
 use frame::refusals::INVALID_MESSAGE_TYPE;
 use frame_build::creator::join::JoinRequestParts;
 
@@ -84,7 +85,7 @@ pub extern "C" fn zinovoky_build_data(
         (now (out .entry)) r (now (out .exit)) ⌝ }
 {
     if kind < 2 {
-        return answer(INVALID_MESSAGE_TYPE, 0);
+        return answer(INVALID_DATA, 0);
     }
     if kind > 5 {
         return answer(INVALID_MESSAGE_TYPE, 0);

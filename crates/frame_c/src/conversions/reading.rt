@@ -1,44 +1,35 @@
 // The fields of the join messages in bytes.
 ghost use mathlib.Core.Path.{_≡_};
-ghost use Rattle.frame_c.specs.CStored.{requestEuis, requestEnd, RequestInto, listNumber, frequencyBytes, acceptFixed, AcceptInto};
-use crate::conversions::storing::store_answer;
+ghost use Prim.Native.Nat.{_+_, _≤_};
+ghost use lib.ListN.{length};
+ghost use Rattle.base.specs.Storing.{Put};
+ghost use Rattle.frame.specs.JoinFields.{listNumber};
+ghost use Rattle.frame_c.specs.CStored.{requestBytes, RequestInto, fourEach, acceptFixed, AcceptInto};
+use crate::conversions::answers::answer;
+use crate::conversions::storing::or_short;
+use base::storing::four_bytes;
+use base::storing::put;
 use frame::join_fields::CfList;
 use frame::join_fields::JoinAcceptFields;
 use frame::join_fields::JoinRequestFields;
 
-// DevNonce and MIC of a join-request.
-fn request_end(fields: JoinRequestFields) -> [u8; 6]
-    ensures { λ r. ⌜ r ≡ requestEnd fields ⌝ }
-{
-    let n = fields.dev_nonce;
-    let m = fields.mic;
-    [n[0], n[1], m[0], m[1], m[2], m[3]]
-}
+const REQUEST_FIELDS_LEN: usize = 22;
 
-// AppEUI and DevEUI of a join-request.
-fn request_euis(fields: JoinRequestFields) -> [u8; 16]
-    ensures { λ r. ⌜ r ≡ requestEuis fields ⌝ }
+const ACCEPT_FIELDS_LEN: usize = 42;
+
+// The fields of a join-request from the start of out; answers the place past them.
+fn put_request(fields: JoinRequestFields, out: &mut [u8]) -> usize
+    requires { ⌜ 22 ≤ length (now out) ⌝ }
+    ensures { λ r. ⌜ Put (now (out .entry)) 0 (requestBytes fields) r (now (out .exit)) ⌝ }
 {
-    let a = fields.app_eui;
-    let d = fields.dev_eui;
-    [
-        a[0],
-        a[1],
-        a[2],
-        a[3],
-        a[4],
-        a[5],
-        a[6],
-        a[7],
-        d[0],
-        d[1],
-        d[2],
-        d[3],
-        d[4],
-        d[5],
-        d[6],
-        d[7],
-    ]
+    let app_eui = fields.app_eui;
+    let dev_eui = fields.dev_eui;
+    let dev_nonce = fields.dev_nonce;
+    let mic = fields.mic;
+    let a = put(out, 0, &app_eui);
+    let b = put(out, a, &dev_eui);
+    let c = put(out, b, &dev_nonce);
+    put(out, c, &mic)
 }
 
 // Stores the fields of a join-request, where it is one and there is room for them.
@@ -46,9 +37,12 @@ pub(crate) fn store_request(fields: JoinRequestFields, out: &mut [u8]) -> u64
     ensures { λ r. ⌜ RequestInto fields (now (out .entry)) r (now (out .exit)) ⌝ }
 {
     let refusal = fields.refusal;
-    let euis = request_euis(fields);
-    let rest = request_end(fields);
-    store_answer(refusal, &euis, &rest, out)
+    let number = or_short(refusal.number, REQUEST_FIELDS_LEN, out.len());
+    if number != 0 {
+        return answer(number, refusal.place);
+    }
+    put_request(fields, out);
+    answer(0, refusal.place)
 }
 
 // Which list a join-accept holds: 0 none, 1 frequencies, 2 masks.
@@ -62,68 +56,38 @@ fn list_number(list: CfList) -> u8
     }
 }
 
-// Five frequencies of four bytes each, low byte first.
-fn frequency_bytes(q: [u32; 5]) -> [u8; 20]
-    ensures { λ r. ⌜ r ≡ frequencyBytes q ⌝ }
+// All of a join-accept but the frequencies, from the start of out; answers the place past it.
+fn put_fixed(fields: JoinAcceptFields, out: &mut [u8]) -> usize
+    requires { ⌜ 22 ≤ length (now out) ⌝ }
+    ensures { λ r. ⌜ Put (now (out .entry)) 0 (acceptFixed fields) r (now (out .exit)) ⌝ }
 {
-    [
-        (q[0] % 256) as u8,
-        (q[0] / 256 % 256) as u8,
-        (q[0] / 65536 % 256) as u8,
-        (q[0] / 16777216 % 256) as u8,
-        (q[1] % 256) as u8,
-        (q[1] / 256 % 256) as u8,
-        (q[1] / 65536 % 256) as u8,
-        (q[1] / 16777216 % 256) as u8,
-        (q[2] % 256) as u8,
-        (q[2] / 256 % 256) as u8,
-        (q[2] / 65536 % 256) as u8,
-        (q[2] / 16777216 % 256) as u8,
-        (q[3] % 256) as u8,
-        (q[3] / 256 % 256) as u8,
-        (q[3] / 65536 % 256) as u8,
-        (q[3] / 16777216 % 256) as u8,
-        (q[4] % 256) as u8,
-        (q[4] / 256 % 256) as u8,
-        (q[4] / 65536 % 256) as u8,
-        (q[4] / 16777216 % 256) as u8,
-    ]
-}
-
-// All of a join-accept but the frequencies.
-fn accept_fixed(fields: JoinAcceptFields) -> [u8; 22]
-    ensures { λ r. ⌜ r ≡ acceptFixed fields (listNumber (fields .«cf_list»)) ⌝ }
-{
-    let a = fields.app_nonce;
-    let n = fields.net_id;
-    let d = fields.dev_addr;
+    let app_nonce = fields.app_nonce;
+    let net_id = fields.net_id;
+    let dev_addr = fields.dev_addr;
     let kind = fields.cf_list;
     let list = list_number(kind);
-    let m = fields.masks;
-    [
-        a[0],
-        a[1],
-        a[2],
-        n[0],
-        n[1],
-        n[2],
-        d[0],
-        d[1],
-        d[2],
-        d[3],
-        fields.dl_settings,
-        fields.rx_delay,
-        list,
-        m[0],
-        m[1],
-        m[2],
-        m[3],
-        m[4],
-        m[5],
-        m[6],
-        m[7],
-        m[8],
-    ]
+    let single = [fields.dl_settings, fields.rx_delay, list];
+    let masks = fields.masks;
+    let a = put(out, 0, &app_nonce);
+    let b = put(out, a, &net_id);
+    let c = put(out, b, &dev_addr);
+    let d = put(out, c, &single);
+    put(out, d, &masks)
+}
+
+// Five frequencies of four bytes each, low byte first, from a place on; answers the place past them.
+fn put_frequencies(out: &mut [u8], at: usize, frequencies: [u32; 5]) -> usize
+    requires { ⌜ at + 20 ≤ length (now out) ⌝ }
+    ensures { λ r. ⌜ Put (now (out .entry)) at (fourEach 5 frequencies) r (now (out .exit)) ⌝ }
+{
+    let mut end = at;
+    let mut i: usize = 0;
+    while i < 5 {
+        let bytes = four_bytes(frequencies[i]);
+        end = put(out, end, &bytes);
+        i += 1;
+    }
+    end
 }
 
 // Stores the fields of a join-accept, where it is one and there is room for them.
@@ -131,8 +95,12 @@ pub(crate) fn store_accept(fields: JoinAcceptFields, out: &mut [u8]) -> u64
     ensures { λ r. ⌜ AcceptInto fields (now (out .entry)) r (now (out .exit)) ⌝ }
 {
     let refusal = fields.refusal;
-    let fixed = accept_fixed(fields);
-    let values = fields.frequencies;
-    let list = frequency_bytes(values);
-    store_answer(refusal, &fixed, &list, out)
+    let number = or_short(refusal.number, ACCEPT_FIELDS_LEN, out.len());
+    if number != 0 {
+        return answer(number, refusal.place);
+    }
+    let frequencies = fields.frequencies;
+    let end = put_fixed(fields, out);
+    put_frequencies(out, end, frequencies);
+    answer(0, refusal.place)
 }

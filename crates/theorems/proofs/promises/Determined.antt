@@ -11,6 +11,7 @@ use Rattle.frame_opening.specs.FrameOpening.{Result}
 use Rattle.base.proofs.storing.put.Reads as base-put
 use Rattle.base.proofs.storing.byte_at.Reads as base-byte-at
 use Rattle.base.proofs.storing.wide.Reads as base-wide
+use Rattle.base.proofs.storing.four_bytes.Reads as base-four-bytes
 use Rattle.base.proofs.storing.three_at.Reads as base-three-at
 use Rattle.base.proofs.storing.four_at.Reads as base-four-at
 use Rattle.base.proofs.storing.block_at.Reads as base-block-at
@@ -93,6 +94,7 @@ use Rattle.frame_c.proofs.opening.zinovoky_session_keys.Reads as c-session-keys
 use Rattle.frame_c.proofs.reading.zinovoky_read.Reads as c-read
 use Rattle.frame_c.proofs.reading.zinovoky_join_request_fields.Reads as c-join-request-fields
 use Rattle.frame_c.proofs.reading.zinovoky_join_accept_fields.Reads as c-join-accept-fields
+use Rattle.frame_c.proofs.reading.zinovoky_nwk_id.Reads as c-nwk-id
 use Rattle.frame_c.proofs.building.zinovoky_build_join_request.Reads as c-build-join-request
 use Rattle.frame_c.proofs.building.zinovoky_build_join_accept.Reads as c-build-join-accept
 use Rattle.frame_c.proofs.building.zinovoky_build_data.Reads as c-build-data
@@ -120,6 +122,9 @@ base-byte-at-determined κs a x y s t p q = p ∙ sym q
 
 pub base-wide-determined : Determined base-wide.Learnt
 base-wide-determined κs a x y s t p q = p ∙ sym q
+
+pub base-four-bytes-determined : Determined base-four-bytes.Learnt
+base-four-bytes-determined κs a x y s t p q = p ∙ sym q
 
 pub base-three-at-determined : Determined base-three-at.Learnt
 base-three-at-determined κs a x y s t p q = p ∙ sym q
@@ -386,6 +391,9 @@ c-join-request-fields-determined κs a x y s t p q = (p .answer ∙ sym (q .answ
 
 pub c-join-accept-fields-determined : DeterminedLent (λ κs s. now (s .1 .0)) c-join-accept-fields.Learnt
 c-join-accept-fields-determined κs a x y s t p q = (p .answer ∙ sym (q .answer), p .output ∙ sym (q .output))
+
+pub c-nwk-id-determined : Determined c-nwk-id.Learnt
+c-nwk-id-determined κs a x y s t p q = p ∙ sym q
 
 pub c-build-join-request-determined : DeterminedLent (λ κs s. now (s .1 .1 .1 .1 .0)) c-build-join-request.Learnt
 c-build-join-request-determined κs a x y s t p q = (p .answer ∙ sym (q .answer), p .output ∙ sym (q .output))

@@ -30,7 +30,7 @@ returns c =
     (fifth .before .before .before .before .put4 .ensures .list)
     (fifth .put5 .ensures .list)
     (c .before .put6 .ensures .list)
-    (count .counter-bytes .ensures)
+    (count .four-bytes .ensures)
 
 pub store-spec : {M : Type 1} → statement M
 store-spec =

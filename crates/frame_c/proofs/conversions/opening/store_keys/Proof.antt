@@ -1,36 +1,39 @@
 -- `store_keys` stores both keys where they are derived and there is room, and else nothing.
 -- Assumes nothing.
-use borrow.Author.Needs.{needs}
-use mathlib.Core.Path.{_≡_, refl}
+use mathlib.Core.Path.{_≡_}
 use mathlib.Core.List.{_++_}
 use native.Mathlib.Omega.{arith}
 use lib.ListN.{length, length-append}
-use Rattle.frame_c.proofs.Fillings.{parts-into}
+use borrow.Author.Needs.{needs}
+use Rattle.base.proofs.Put.{then, put-length}
+use Rattle.base.proofs.StoringLaws.{fitted}
+use Rattle.frame_c.proofs.StoredLaws.{room-left, refused, stored}
 use Rattle.frame_c.proofs.conversions.opening.store_keys.Statement.{statement}
 use Rattle.frame_c.proofs.conversions.opening.store_keys.Tie as tie
 
-nwk-long : (c : tie.Start) → length (c .args .session .«nwk_skey») ≡ 16
-nwk-long c = search needs
+sizes : (c : tie.Start) → (length (c .args .session .«nwk_skey») ≡ 16) × (length (c .args .session .«app_skey») ≡ 16)
+sizes c = (search needs, search needs)
 
-app-long : (c : tie.Start) → length (c .args .session .«app_skey») ≡ 16
-app-long c = search needs
-
-both-long : (c : tie.Start) → length (c .args .session .«nwk_skey» ++ c .args .session .«app_skey») ≡ 32
-both-long c = omega (arith, length-append (c .args .session .«nwk_skey») (c .args .session .«app_skey»), nwk-long c, app-long c)
-
-store-answer-requires : tie.Need-store-answer-requires
-store-answer-requires c κs =
-    let start = c .before .before .before .before .before .before .before in
-    (omega (arith, nwk-long start), omega (arith, app-long start))
+long : (c : tie.Start) → length (c .args .session .«nwk_skey» ++ c .args .session .«app_skey») ≡ 32
+long c = omega (arith, length-append (c .args .session .«nwk_skey») (c .args .session .«app_skey»), sizes c)
 
 returns : tie.Need-returns
-returns c =
-    let start = c .before .before .before .before .before .before .before .before .before .before in
-    let nwk : start .args .session .«nwk_skey» ≡ start .args .session .«nwk_skey» = refl in
-    let app : start .args .session .«app_skey» ≡ start .args .session .«app_skey» = refl in
-    parts-into (start .args .session .refusal) nwk app (both-long start) (c .before .before .store-answer .ensures)
+returns c = refused (c .before .before .or-short .ensures) (c .before .if1 .taken) (c .answer .ensures)
+
+returns-2 : tie.Need-returns-2
+returns-2 c =
+    let second = c .before .before .before in
+    let first = second .before .before .before .before .before in
+    let tested = first .before .before .before .before .before in
+    let start = tested .before .before .before .before in
+    let short = tested .before .or-short .ensures in
+    let room = room-left _ _ _ short (tested .if1 .left) in
+    let one = fitted (first .put .ensures) (omega (arith, room, sizes start)) in
+    let two = fitted (second .put2 .ensures) (omega (arith, room, sizes start, one .next, put-length one)) in
+    stored _ _ short (tested .if1 .left) (long start) (c .answer2 .ensures) (then one two)
 
 pub store-keys-spec : {M : Type 1} → statement M
 store-keys-spec =
     tie.close
-    (tie.spec (λ c. search needs) (λ c. search needs) store-answer-requires (λ c. search needs) returns)
+    (tie.spec (λ c κs. search needs) (λ c κs. search needs) returns (λ c. search needs) (λ c κs. search needs)
+    (λ c. search needs) (λ c κs. search needs) (λ c κs. search needs) (λ c. search needs) returns-2)
