@@ -6,6 +6,7 @@ Run: python3 tools/oracle/test_oracle.py
 import pathlib
 import unittest
 
+import c_values
 import generate
 import oracle
 import records
@@ -186,6 +187,9 @@ class Files(unittest.TestCase):
             bodies = records.read_file((out / f"{name}.stdin").read_bytes())
             self.assertEqual(bodies, generate.bodies_of(cases(generate.SEED)))
             self.assertEqual((out / f"{name}.stdout").read_text(), records.answers(bodies))
+
+    def test_values_for_c(self):
+        self.assertEqual(c_values.HEADER.read_text(), c_values.text())
 
     def test_reading_a_body_undoes_writing_it(self):
         for cases in generate.LISTS.values():
