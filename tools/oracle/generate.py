@@ -19,6 +19,7 @@ from records import (
     DECRYPT_DATA_CHECKED,
     DECRYPT_JOIN_ACCEPT,
     DECRYPT_JOIN_ACCEPT_CHECKED,
+    HOLD,
     MIC_DATA,
     MIC_JOIN_ACCEPT,
     MIC_JOIN_REQUEST,
@@ -413,6 +414,10 @@ class Held:
         given = self.counter if counter is None else counter
         return AMEND, [*self.keys, given, self.frame if frame is None else frame, amendments]
 
+    def hold(self, calls, room=None):
+        room = len(self.frame) if room is None else room
+        return HOLD, [*self.keys, self.counter, self.frame, room, calls]
+
     def at(self, *offsets):
         return self.call([(offset, self.source.byte()) for offset in offsets])
 
@@ -469,29 +474,32 @@ def no_payload(source):
         yield Held(source, fopts=fopts, port=port, payload=0).at(0, 1)
 
 
-def refused_openings(source):
-    held = Held(source, payload=10)
+def refused_openings(source, held):
+    """Each refusal of an opening: keys, counter and frame."""
     low, high = held.counter ^ 1, held.counter ^ 0x00010000
-    amendments = [(0, 1), (9, 2), (10, 3)]
-    yield held.call(amendments, counter=low)
-    yield held.call(amendments, counter=held.counter ^ 0x8000)
-    yield held.call(amendments, counter=high)
-    yield held.call(amendments, counter=held.counter ^ 0x80000000)
-    yield held.call(amendments, counter=low ^ 0x00010000)
+    for counter in (low, held.counter ^ 0x8000, high, held.counter ^ 0x80000000, low ^ 0x00010000):
+        yield held.keys, counter, held.frame
     for place in range(len(held.frame) - 4, len(held.frame)):
-        yield held.call(amendments, flipped(held.frame, place, 5))
-        yield held.call(amendments, flipped(held.frame, place, 5), counter=low)
+        yield held.keys, held.counter, flipped(held.frame, place, 5)
+        yield held.keys, low, flipped(held.frame, place, 5)
     for place in (0, 1, 8, 9, 18):
-        yield held.call(amendments, flipped(held.frame, place, 2))
+        yield held.keys, held.counter, flipped(held.frame, place, 2)
     for frame in (b"", held.frame[:11], held.frame + source.bytes(256 - len(held.frame)), source.bytes(300)):
-        yield held.call(amendments, frame)
+        yield held.keys, held.counter, frame
     others = ((0x41, 23), (0x42, 12), (0xC0, 23), (0xE0, 12), (0x00, 23), (0x00, 22), (0x20, 17), (0x20, 33))
     for first, length in others:
-        yield held.call(amendments, bytes([first]) + source.bytes(length - 1))
+        yield held.keys, held.counter, bytes([first]) + source.bytes(length - 1)
     for fopts in (1, 15):
-        yield held.call(amendments, bytes([0x60]) + source.bytes(4) + bytes([fopts]) + source.bytes(5 + fopts))
-    yield AMEND, [held.keys[1], held.keys[0], held.counter, held.frame, amendments]
-    yield held.call([], counter=low)
+        short = bytes([0x60]) + source.bytes(4) + bytes([fopts]) + source.bytes(5 + fopts)
+        yield held.keys, held.counter, short
+    yield (held.keys[1], held.keys[0]), held.counter, held.frame
+
+
+def amended_unopened(source):
+    held = Held(source, payload=10)
+    for keys, counter, frame in refused_openings(source, held):
+        yield AMEND, [*keys, counter, frame, [(0, 1), (9, 2), (10, 3)]]
+    yield held.call([], counter=held.counter ^ 1)
 
 
 def amended(seed):
@@ -503,10 +511,110 @@ def amended(seed):
     yield from counters_and_first_bytes(source)
     yield from one_byte_twice(source)
     yield from no_payload(source)
-    yield from refused_openings(source)
+    yield from amended_unopened(source)
 
 
-LISTS = {"read": read, "opened": opened, "built": built, "amended": amended}
+# ---- held: a frame held open, and a history of calls --------------------------------------------------------------
+
+
+def rooms(source):
+    """Each length of frame into no room, one byte too few, just enough and more."""
+    for fopts, port, payload in ((0, None, 0), (0, 1, 0), (0, 0, 1), (3, 7, 17), (0, 255, 242)):
+        held = Held(source, fopts=fopts, port=port, payload=payload)
+        length = len(held.frame)
+        for room in (0, length - 1, length, length + 1, 300):
+            yield held.hold([(0, source.byte()), [(0, source.byte())]], room)
+
+
+def mixed_histories(source):
+    """Single ones and lists in turn, at both ends and outside, on each length and port."""
+    for length, port in itertools.product((1, 15, 16, 17, 33, 242), PORTS):
+        held = Held(source, fopts=source.byte() % 3 if length < 242 else 0, port=port, payload=length)
+        value, last = source.byte, length - 1
+        yield held.hold([(0, value()), [(last, value()), (0, value())], (last, value()), [(last // 2, value())]])
+        yield held.hold([[(0, value()), (length, value())], (length, value()), (last, value()), [(last, value())]])
+
+
+def refused_members(source):
+    """Lists whose first, middle or last member is outside, by one and by far: nothing of them is made."""
+    for outside, place in itertools.product((20, 21, 255, 65536, 0xFFFFFF), range(3)):
+        held = Held(source, port=source.pick(PORTS), payload=20)
+        members = [(0, source.byte()), (19, source.byte())]
+        members.insert(place, (outside, source.byte()))
+        yield held.hold([members, (7, source.byte()), [(8, source.byte())], members])
+    held = Held(source, payload=20)
+    yield held.hold([(outside, 1) for outside in (20, 255, 256, 65535, 65536, 0xFFFFFF, 0xFFFFFFFF)] + [(19, 1)])
+
+
+def empty_lists(source):
+    """No call at all; lists without a member, alone and between others."""
+    for port, payload in ((None, 0), (9, 0), (0, 1), (1, 40)):
+        held = Held(source, port=port, payload=payload)
+        yield held.hold([])
+        yield held.hold([[]])
+        yield held.hold([[], (0, source.byte()), [], [(0, source.byte())], []])
+
+
+def one_byte_held_twice(source):
+    """The same byte by two calls, twice in a list, back to what it was, and to the value that it has."""
+    for port, length in ((1, 1), (0, 16), (9, 33)):
+        held = Held(source, port=port, payload=length)
+        last, first, second = length - 1, source.byte(), source.byte()
+        was = held.clear(last)
+        yield held.hold([(last, first), (last, second)])
+        yield held.hold([[(last, first), (last, second)], [(last, second), (last, first)]])
+        yield held.hold([(last, was ^ 0x80), [(last, was)]])
+        yield held.hold([[(last, was)], (last, was)])
+
+
+def blocks_up_and_down(source):
+    """Lists over every block of a long frame, which is signed from the lowest place on, in both directions."""
+    held = Held(source, port=1, payload=242)
+    ups = [(offset, source.byte()) for offset in range(0, 242, 34)]
+    edges = [(16 * block - held.start, source.byte()) for block in range(1, 16)]
+    yield held.hold([ups])
+    yield held.hold([ups[::-1]])
+    yield held.hold([edges, ups, edges[::-1]])
+    yield held.hold([ups[-1], ups[4:], ups[0], ups[:4]])
+    yield held.hold([[(offset, 0) for offset in range(60)], [(offset, 255) for offset in reversed(range(60))]])
+
+
+def held_without_payload(source):
+    for fopts, port in itertools.product((0, 1, 15), (None, 0, 9)):
+        yield Held(source, fopts=fopts, port=port, payload=0).hold([(0, 1), [(0, 1)], [], (255, 1)])
+
+
+def held_headers(source):
+    """Every counter and the bits of byte 0 that the reader ignores."""
+    for counter in COUNTERS:
+        yield Held(source, payload=20, counter=counter).hold([(19, source.byte()), [(0, source.byte()), (4, 4)]])
+    for first, bits in itertools.product(FIRST_BYTES, (0x04, 0x18)):
+        yield Held(source, first + bits, 1, source.pick(PORTS), 18).hold([[(17, source.byte())], (0, 0), (18, 1)])
+
+
+def held_unopened(source):
+    """Calls after an opening that was refused: there is a frame of no bytes then."""
+    held = Held(source, payload=10)
+    for turn, (keys, counter, frame) in enumerate(refused_openings(source, held)):
+        yield HOLD, [*keys, counter, frame, turn % 3, [(0, 1), [(0, 1)], [], (9, 2)]]
+
+
+def held(seed):
+    source = Source(seed + 4)
+    hello = [(0, ord("H")), [(1, ord("E")), (2, ord("L"))], [(5, ord("!"))], (3, ord("L")), [(4, ord("O"))]]
+    yield HOLD, [DOCUMENTED_NETWORK_KEY, DOCUMENTED_APPLICATION_KEY, 1, DOCUMENTED_DATA, 18, hello]
+    yield from rooms(source)
+    yield from mixed_histories(source)
+    yield from refused_members(source)
+    yield from empty_lists(source)
+    yield from one_byte_held_twice(source)
+    yield from blocks_up_and_down(source)
+    yield from held_without_payload(source)
+    yield from held_headers(source)
+    yield from held_unopened(source)
+
+
+LISTS = {"read": read, "opened": opened, "built": built, "amended": amended, "held": held}
 
 
 def bodies_of(cases):

@@ -163,6 +163,11 @@ def read_as(kind, frame):
     return reading
 
 
+def nwk_id(dev_addr):
+    """The seven highest bits of an address (LoRaWAN 1.0, 6.1.1), whose low byte comes first in a frame."""
+    return int.from_bytes(dev_addr, "little") >> 25
+
+
 # ---- Helper blocks, MIC, key stream (LoRaWAN 1.0, 4.3.3 and 4.4) ---------------------------------------------------
 
 
@@ -352,20 +357,95 @@ def amend(clear, offset, value):
     return clear[:at] + bytes([value]) + clear[at + 1 :]
 
 
-def amend_all(network_key, application_key, counter, frame, amendments):
-    """The opening's number, the number of each amendment, the caller's frame afterwards.
+def amend_list(clear, amendments):
+    """The clear frame with a whole list made, or a refusal and then none of it."""
+    for offset, value in amendments:
+        clear = amend(clear, offset, value)
+    return clear
 
-    A refused opening gives a state without a payload, so each amendment to it is refused, and the frame stays.
+
+def hold(network_key, application_key, counter, frame, calls):
+    """The opening's number, the number of each call, and the frame that is held in the end.
+
+    A call is one amendment (a pair) or a list of them. A refused opening leaves a buffer of zeros, which holds a frame of no
+    bytes: each amendment to it is refused, and only a list without one is made.
     """
+    lists = [call if isinstance(call, list) else [call] for call in calls]
     try:
         clear = open_for_amendment(network_key, application_key, counter, frame)
     except Refused as refusal:
-        return refusal.number, [OFFSET_OUTSIDE] * len(amendments), frame
+        return refusal.number, [OFFSET_OUTSIDE if amendments else ACCEPTED for amendments in lists], b""
     numbers = []
-    for offset, value in amendments:
+    for amendments in lists:
         try:
-            clear = amend(clear, offset, value)
+            clear = amend_list(clear, amendments)
             numbers.append(ACCEPTED)
         except Refused as refusal:
             numbers.append(refusal.number)
     return ACCEPTED, numbers, seal_data(clear, network_key, application_key, counter)
+
+
+def take_out(held, room):
+    """The frame that is held, as a slice of so many bytes takes it."""
+    if len(held) > room:
+        raise Refused(BUFFER_TOO_SHORT)
+    return held
+
+
+def amend_all(network_key, application_key, counter, frame, amendments):
+    """The opening's number, the number of each amendment, the caller's frame afterwards: as it was if the opening is refused."""
+    number, numbers, held = hold(network_key, application_key, counter, frame, amendments)
+    return number, numbers, frame if number else held
+
+
+# ---- A frame held open in bytes (docs/RULES.md, Amendments) --------------------------------------------------------
+
+
+def doubled(byte):
+    """Multiplication by x in the field of FIPS 197, 4.2."""
+    return byte << 1 & 0xFF ^ (0x1B if byte & 0x80 else 0)
+
+
+def product(a, b):
+    """Multiplication in that field: the doublings of a that b's bits select."""
+    result = 0
+    for bit in range(8):
+        result ^= a if b >> bit & 1 else 0
+        a = doubled(a)
+    return result
+
+
+def substituted(byte):
+    """SubBytes of one byte (FIPS 197, 5.1.1): the inverse, 0 for 0, then the affine map."""
+    inverse = next((b for b in range(256) if product(byte, b) == 1), 0)
+    turned = [inverse >> (8 - turn) | inverse << turn & 0xFF for turn in range(5)]
+    return turned[0] ^ turned[1] ^ turned[2] ^ turned[3] ^ turned[4] ^ 0x63
+
+
+def key_expansion(key):
+    """The 176 bytes of a key schedule (FIPS 197, 5.2)."""
+    words, constant = [key[i : i + 4] for i in range(0, 16, 4)], 1
+    for i in range(4, 44):
+        word = words[i - 1]
+        if i % 4 == 0:
+            word = bytes(substituted(b) for b in word[1:] + word[:1])
+            word, constant = bytes([word[0] ^ constant]) + word[1:], doubled(constant)
+        words.append(xor(words[i - 4], word))
+    return b"".join(words)
+
+
+def chain_values(network_key, counter, frame):
+    """The chain values of the MIC after every block of its message but the last, then zeros: 256 bytes."""
+    message = helper_block(0x49, frame, counter, len(frame) - 4) + frame[:-4]
+    values, value = b"", bytes(16)
+    for at in range(0, len(message) - 16, 16):
+        value = aes_encrypt(network_key, xor(value, message[at : at + 16]))
+        values += value
+    return values + bytes(256 - len(values))
+
+
+def held_bytes(network_key, application_key, counter, frame):
+    """The 868 bytes that hold a data frame open."""
+    schedules = key_expansion(network_key) + key_expansion(application_key)
+    chains = chain_values(network_key, counter, frame)
+    return frame + bytes(255 - len(frame)) + bytes([len(frame)]) + schedules + chains + counter.to_bytes(4, "little")

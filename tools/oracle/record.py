@@ -12,7 +12,8 @@ import records
 HERE = pathlib.Path(__file__).resolve().parent
 ROOT = HERE.parent.parent
 ORACLE, CRATE, PROGRAM = HERE / "out", ROOT / "host" / "recorded", ROOT / "crates" / "replay"
-LISTS = [(folder, name) for folder in (ORACLE, CRATE) for name in ("opened", "built", "read")] + [(ORACLE, "amended")]
+BOTH = [(folder, name) for folder in (ORACLE, CRATE) for name in ("opened", "built", "read")]
+LISTS = BOTH + [(ORACLE, "amended"), (ORACLE, "held")]
 
 
 def cases(folder, name):

@@ -85,6 +85,39 @@ class Amendments:
         return values, at + 2 + 5 * count
 
 
+class History:
+    """Two bytes, the number of calls; for each a 0 and one amendment as above, or a 1 and a list.
+
+    A list has its number in two bytes, then offset * 256 + value in four bytes for each of its amendments.
+    """
+
+    def write_call(self, call):
+        if isinstance(call, list):
+            numbers = (offset * 256 + value for offset, value in call)
+            return b"\1" + len(call).to_bytes(2, "little") + b"".join(n.to_bytes(4, "little") for n in numbers)
+        offset, value = call
+        return b"\0" + offset.to_bytes(4, "little") + bytes([value])
+
+    def read_call(self, data, at):
+        if data[at] == 0:
+            return (int.from_bytes(data[at + 1 : at + 5], "little"), data[at + 5]), at + 6
+        count = int.from_bytes(data[at + 1 : at + 3], "little")
+        places = [at + 3 + 4 * i for i in range(count)]
+        numbers = [int.from_bytes(data[p : p + 4], "little") for p in places]
+        return [divmod(n, 256) for n in numbers], at + 3 + 4 * count
+
+    def write(self, value):
+        return len(value).to_bytes(2, "little") + b"".join(self.write_call(call) for call in value)
+
+    def read(self, data, at):
+        count, at = int.from_bytes(data[at : at + 2], "little"), at + 2
+        calls = []
+        for _ in range(count):
+            call, at = self.read_call(data, at)
+            calls.append(call)
+        return calls, at
+
+
 BYTE, HALF, WORD, KEY, MAYBE_KEY = Number(1), Number(2), Number(4), Fixed(16), Maybe(16)
 
 # ---- Answers -----------------------------------------------------------------------------------------------------
@@ -144,6 +177,11 @@ def amended(*arguments):
     return bytes([number]) + bytes(numbers) + frame
 
 
+def held(network, application, counter, frame, room, calls):
+    number, numbers, kept = oracle.hold(network, application, counter, frame, calls)
+    return bytes([number, *numbers]) + built(oracle.take_out)(kept, room)
+
+
 def maybe_byte(value):
     return bytes(2) if value is None else bytes([1, value])
 
@@ -195,6 +233,7 @@ SESSION_KEYS = 8
 BUILD_JOIN_REQUEST, BUILD_JOIN_ACCEPT, BUILD_DATA = 9, 10, 11
 AMEND = 12
 READ, READ_CLEAR_JOIN_ACCEPT = 13, 14
+HOLD = 15
 
 KINDS = {
     MIC_JOIN_REQUEST: ([KEY, Bytes()], tested(oracle.test_mic_join_request)),
@@ -217,6 +256,7 @@ KINDS = {
     AMEND: ([KEY, KEY, WORD, Bytes(), Amendments()], amended),
     READ: ([Bytes()], shown),
     READ_CLEAR_JOIN_ACCEPT: ([Bytes()], shown_clear),
+    HOLD: ([KEY, KEY, WORD, Bytes(), HALF, History()], held),
 }
 
 

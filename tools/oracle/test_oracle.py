@@ -6,6 +6,7 @@ Run: python3 tools/oracle/test_oracle.py
 import pathlib
 import unittest
 
+import c_values
 import generate
 import oracle
 import records
@@ -32,6 +33,10 @@ class Published(unittest.TestCase):
         key = HEX("2b7e151628aed2a6abf7158809cf4f3c")
         clear, secret = HEX("3243f6a8885a308d313198a2e0370734"), HEX("3925841d02dc09fbdc118597196a0b32")
         self.assertEqual(oracle.aes_encrypt(key, clear), secret)
+
+    def test_fips_197_a1(self):
+        schedule = oracle.key_expansion(HEX("2b7e151628aed2a6abf7158809cf4f3c"))
+        self.assertEqual((schedule[16:20], schedule[172:]), (HEX("a0fafe17"), HEX("b6630ca6")))
 
     def test_rfc_4493_4(self):
         key = HEX("2b7e151628aed2a6abf7158809cf4f3c")
@@ -132,6 +137,47 @@ class Amended(unittest.TestCase):
         self.assertEqual(result, (0, [0, 15, 0, 0], build(b"Jelly")))
 
 
+class HeldOpen(unittest.TestCase):
+    """Histories of calls, against the frame built with the payload that they come to."""
+
+    def setUp(self):
+        self.keys = bytes(16), bytes([9] * 16)
+        self.fields = oracle.DataFields(True, False, b"addr", 0x10, 65537, 7)
+
+    def build(self, payload):
+        return oracle.build_data(self.fields, b"ab", payload, *self.keys, 255)
+
+    def hold(self, frame, calls):
+        return oracle.hold(*self.keys, 65537, frame, calls)
+
+    def test_equals_a_fresh_build(self):
+        calls = [(0, 74), [(4, 33), (4, 121)], (5, 1), [(1, 0), (5, 1)], [], [(3, 108), (2, 108)]]
+        self.assertEqual(self.hold(self.build(b"hello"), calls), (0, [0, 0, 15, 15, 0, 0], self.build(b"Jelly")))
+
+    def test_refused_opening_holds_no_byte(self):
+        self.assertEqual(self.hold(b"", [(0, 1), [(0, 1)], []]), (1, [15, 15, 0], b""))
+        self.assertEqual(oracle.take_out(b"", 0), b"")
+
+    def test_chain_values_lead_to_the_mic(self):
+        """From the last chain value on, the tag of RFC 4493 is one block more: here a padded one."""
+        frame = self.build(b"x" * 17)[:-4]
+        self.assertEqual(len(frame) % 16, 12)
+        chains = oracle.chain_values(self.keys[0], 65537, frame + bytes(4))
+        subkey = oracle.aes_encrypt(self.keys[0], bytes(16))
+        for _ in range(2):
+            carry = subkey[0] >> 7
+            subkey = (int.from_bytes(subkey, "big") << 1 & (1 << 128) - 1 ^ 0x87 * carry).to_bytes(16, "big")
+        last = oracle.xor(frame[16:] + b"\x80" + bytes(3), subkey)
+        tag = oracle.aes_encrypt(self.keys[0], oracle.xor(last, chains[16:32]))
+        self.assertEqual(tag[:4], oracle.data_mic(self.keys[0], 65537, frame))
+        self.assertEqual(chains[32:], bytes(224))
+
+    def test_room(self):
+        frame = self.build(b"hello")
+        self.assertEqual(oracle.take_out(frame, len(frame)), frame)
+        self.assertEqual(number_of(oracle.take_out, frame, len(frame) - 1), 7)
+
+
 class Files(unittest.TestCase):
     """The written files are what the generator writes now, and their answers what the oracle says to them as read."""
 
@@ -141,6 +187,9 @@ class Files(unittest.TestCase):
             bodies = records.read_file((out / f"{name}.stdin").read_bytes())
             self.assertEqual(bodies, generate.bodies_of(cases(generate.SEED)))
             self.assertEqual((out / f"{name}.stdout").read_text(), records.answers(bodies))
+
+    def test_values_for_c(self):
+        self.assertEqual(c_values.HEADER.read_text(), c_values.text())
 
     def test_reading_a_body_undoes_writing_it(self):
         for cases in generate.LISTS.values():

@@ -3,6 +3,7 @@ ghost use Prim.Native.Nat.{_≤_};
 use crate::input::ROOM;
 use crate::input::after;
 use crate::input::copy;
+use crate::input::copy_numbers;
 use crate::input::eight_at;
 use crate::input::length_at;
 use crate::input::number_at;
@@ -84,17 +85,6 @@ fn channel_count(n: u8) -> usize
     n as usize
 }
 
-// Fills the channels from place 15 on.
-fn read_channels(record: &[u8], channels: &mut [u32]) {
-    let mut place: usize = 15;
-    let mut i: usize = 0;
-    while i < channels.len() {
-        channels[i] = number_at(record, place);
-        place = after(place, 4);
-        i += 1;
-    }
-}
-
 fn accept_into(record: &[u8], channels: &[u32], place: usize, out: &mut [u8]) {
     let parts = accept_parts(record);
     let key = block_at(record, place);
@@ -102,9 +92,9 @@ fn accept_into(record: &[u8], channels: &[u32], place: usize, out: &mut [u8]) {
     put_all(out);
 }
 
-// Key and room stand behind the channels, from the place given on.
+// Fills the channels from place 15 on; key and room stand behind them, from the place given on.
 fn accept_of(record: &[u8], channels: &mut [u32], place: usize) {
-    read_channels(record, channels);
+    copy_numbers(channels, record, 15);
     let room = length_at(record, after(place, 16));
     let mut out = [0xA5u8; ROOM];
     accept_into(record, channels, place, &mut out[..room]);

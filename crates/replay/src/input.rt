@@ -70,3 +70,14 @@ pub fn number_at(record: &[u8], place: usize) -> u32 {
     let b = four_at(record, place);
     number_of(b[0], b[1], b[2], b[3])
 }
+
+// Fills `to` with the numbers from a place on.
+pub fn copy_numbers(to: &mut [u32], record: &[u8], from: usize) {
+    let mut place = from;
+    let mut i: usize = 0;
+    while i < to.len() {
+        to[i] = number_at(record, place);
+        place = after(place, 4);
+        i += 1;
+    }
+}

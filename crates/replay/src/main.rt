@@ -8,6 +8,7 @@ use libc::STDOUT_FILENO;
 
 mod amending;
 mod building;
+mod holding;
 mod input;
 mod opening;
 mod output;

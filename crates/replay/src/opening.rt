@@ -1,6 +1,7 @@
-// Kinds 1 to 8 and 12: MIC tests, decryption, session keys, amendments. Each has its frame behind arguments of a fixed
-// length.
+// Kinds 1 to 8, 12 and 15: MIC tests, decryption, session keys, amendments, frames held open. Each has its frame behind
+// arguments of a fixed length.
 use crate::amending::open_and_amend;
+use crate::holding::hold;
 use crate::input::ROOM;
 use crate::input::after;
 use crate::input::copy;
@@ -23,6 +24,7 @@ fn frame_place(kind: u8) -> usize {
         5 => 38,
         8 => 19,
         12 => 37,
+        15 => 37,
         _ => 17,
     }
 }
@@ -115,6 +117,7 @@ fn on_frame(record: &[u8], frame: &mut [u8], place: usize) {
         6 => decrypt_accept(record, frame),
         7 => decrypt_accept_checked(record, frame),
         12 => open_and_amend(record, frame),
+        15 => hold(record, frame),
         _ => session_keys(record, frame),
     }
 }

@@ -11,7 +11,8 @@ pub struct Row {
     pub what: &'static str,
     /// Bytes of the frame.
     pub size: usize,
-    /// Who does it, and the call: the port, the port afresh (where it amends), the crate over either cipher.
+    /// Who does it, and the call: the port on a frame held open, the port, the port afresh (where it amends), the crate
+    /// over either cipher.
     pub calls: Vec<(&'static str, Call)>,
 }
 
@@ -109,15 +110,62 @@ fn join_accept_row() -> Row {
     row("building a join-accept", 17, port, theirs::<Soft>(), theirs::<OpenSsl>())
 }
 
-/// Opening, so many amendments from that offset on, and the frame; beside it the same frame built afresh.
-fn amend_row(what: &'static str, size: usize, from: usize, count: usize) -> Row {
-    let list: Vec<Amendment> = (0..count).map(|i| Amendment::new(from + i, i as u8)).collect();
-    let amended = with(frame(size), move |frame| {
+/// Amendments at these offsets.
+fn list(offsets: &[usize]) -> Vec<Amendment> {
+    offsets.iter().enumerate().map(|(i, &offset)| Amendment::new(offset, i as u8)).collect()
+}
+
+/// Eight offsets over the whole payload: 34 apart in a frame of 255 bytes.
+fn spread(size: usize) -> [usize; 8] {
+    std::array::from_fn(|i| i * ((size - 14) / 7))
+}
+
+/// Opening, amendments at these offsets, and the frame.
+fn amend_by_port(size: usize, offsets: &[usize]) -> Call {
+    let list = list(offsets);
+    with(frame(size), move |frame| {
         assert!(amend(frame, &NwkSKey(KEYS.0), &AppSKey(KEYS.1), COUNTER, &list).is_ok());
-    });
+    })
+}
+
+/// The same frame built afresh stands beside it.
+fn amend_row(what: &'static str, size: usize, offsets: &[usize]) -> Row {
+    let amended = amend_by_port(size, offsets);
     let mut row = row(what, size, amended, data_by_crate::<Soft>(size), data_by_crate::<OpenSsl>(size));
     row.calls.insert(1, ("afresh", data_by_port(size)));
     row
+}
+
+fn open(frame: &[u8]) -> OpenFrame {
+    OpenFrame::open(frame, &NwkSKey(KEYS.0), &AppSKey(KEYS.1), COUNTER).expect("a good frame")
+}
+
+/// A call on a frame that is held open all the while.
+fn held(size: usize, mut call: impl FnMut(&mut OpenFrame) -> Result<()> + 'static) -> Call {
+    let mut held = open(&frame(size));
+    Box::new(move || assert!(call(black_box(&mut held)).is_ok()))
+}
+
+/// Beside a call on a frame held open: the same amendments of the frame as bytes, and the frame built afresh.
+fn held_row(what: &'static str, size: usize, offsets: &[usize], call: Call) -> Row {
+    Row {
+        what,
+        size,
+        calls: vec![("held", call), ("port", amend_by_port(size, offsets)), ("afresh", data_by_port(size))],
+    }
+}
+
+/// Opening has with it the bytes that hold the frame, taken from the heap and cleared in the end.
+fn held_rows(size: usize) -> [Row; 4] {
+    let (last, spread) = (size - 14, spread(size));
+    let opening = with(frame(size), |frame| drop(black_box(open(frame))));
+    let eight = list(&spread);
+    [
+        held_row("held open: opening", size, &[], opening),
+        held_row("held open: the first byte", size, &[0], held(size, |open| open.amend(0, 7))),
+        held_row("held open: the last byte", size, &[last], held(size, move |open| open.amend(last, 7))),
+        held_row("held open: eight bytes, spread", size, &spread, held(size, move |open| open.amend_list(&eight))),
+    ]
 }
 
 pub fn all() -> Vec<Row> {
@@ -129,10 +177,11 @@ pub fn all() -> Vec<Row> {
     rows.extend(SIZES.map(data_row));
     rows.extend([join_request_row(), join_accept_row()]);
     for size in [50, 255] {
-        rows.push(amend_row("opening alone", size, 0, 0));
-        rows.push(amend_row("amending the first byte", size, 0, 1));
-        rows.push(amend_row("amending the last byte", size, size - 14, 1));
-        rows.push(amend_row("amending eight bytes", size, 0, 8));
+        rows.push(amend_row("opening alone", size, &[]));
+        rows.push(amend_row("amending the first byte", size, &[0]));
+        rows.push(amend_row("amending the last byte", size, &[size - 14]));
+        rows.push(amend_row("amending eight bytes", size, &[0, 1, 2, 3, 4, 5, 6, 7]));
     }
+    rows.extend([50, 255].into_iter().flat_map(held_rows));
     rows
 }

@@ -8,21 +8,21 @@ use lorawan::parser::DataHeader;
 
 const INVALID_MIC: u8 = 5;
 const COUNTER_MISMATCH: u8 = 14;
-const OFFSET_OUTSIDE: u8 = 15;
+pub const OFFSET_OUTSIDE: u8 = 15;
 
-fn opening_number<F: Judge>(call: &Amend) -> u8 {
-    let mut frame = call.frame.clone();
+pub fn opening_number<F: Judge>(frame: &[u8], network: &AES128, counter: u32) -> u8 {
+    let mut frame = frame.to_vec();
     match parsed_data::<F>(&mut frame) {
         Err(number) => number,
-        Ok(data) if data.fhdr().fcnt() != call.counter as u16 => COUNTER_MISMATCH,
-        Ok(data) if !data.validate_mic(&call.network, call.counter) => INVALID_MIC,
+        Ok(data) if data.fhdr().fcnt() != counter as u16 => COUNTER_MISMATCH,
+        Ok(data) if !data.validate_mic(network, counter) => INVALID_MIC,
         Ok(_) => 0,
     }
 }
 
 /// The opening's number; if it is refused the rest of the answer too, for nothing may change then.
 pub fn opening<F: Judge>(call: &Amend) -> Judged {
-    match opening_number::<F>(call) {
+    match opening_number::<F>(&call.frame, &call.network, call.counter) {
         _ if call.frame.len() > 255 => Judged::Outside,
         0 => Judged::Number(0),
         number => {
@@ -33,7 +33,7 @@ pub fn opening<F: Judge>(call: &Amend) -> Judged {
 }
 
 /// The frame without its MIC, its payload decrypted by the crate, if the crate finds the MIC good.
-fn opened<F: Judge>(frame: &[u8], network: &AES128, application: &AES128, counter: u32) -> Option<Vec<u8>> {
+pub fn opened<F: Judge>(frame: &[u8], network: &AES128, application: &AES128, counter: u32) -> Option<Vec<u8>> {
     let mut frame = frame.to_vec();
     parsed_data::<F>(&mut frame).ok()?.decrypt_if_mic_ok(network, application, counter).ok()?;
     frame.truncate(frame.len() - 4);

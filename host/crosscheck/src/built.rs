@@ -8,7 +8,7 @@ use lorawan::maccommands::SerializableMacCommand;
 use lorawan::parser::FCtrl;
 
 /// Every byte of a lent output slice ahead of the call.
-const FILL: u8 = 0xA5;
+pub const FILL: u8 = 0xA5;
 
 /// Raw command bytes as the crate wants them: an identifier and the rest.
 pub struct RawCommands<'a>(pub &'a [u8]);

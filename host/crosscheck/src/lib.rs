@@ -2,6 +2,7 @@
 
 pub mod amended;
 pub mod built;
+pub mod held;
 pub mod opened;
 pub mod read_back;
 pub mod records;
@@ -87,10 +88,11 @@ pub fn judge<F: Judge>(case: &Case) -> Judged {
         Case::Amend(call) => amended::opening::<F>(call),
         Case::Read { frame } => opened::read::<F>(frame),
         Case::ReadClearJoinAccept { frame } => opened::read_clear_join_accept::<F>(frame),
+        Case::Hold(call) => held::opening::<F>(call),
     }
 }
 
-/// Whether the crate's reader finds in an accepted building or amending what was asked for; none for other answers.
+/// Whether the crate's reader finds in an accepted building, amending or holding what was asked for; none for other answers.
 pub fn read_back<F: Judge>(case: &Case, answer: &[u8]) -> Option<bool> {
     if answer[0] != 0 {
         return None;
@@ -100,6 +102,7 @@ pub fn read_back<F: Judge>(case: &Case, answer: &[u8]) -> Option<bool> {
         Case::BuildJoinAccept(call) => Some(read_back::join_accept::<F>(call, answer)),
         Case::BuildData(call) => Some(read_back::data::<F>(call, answer)),
         Case::Amend(call) => Some(amended::read_back::<F>(call, answer)),
+        Case::Hold(call) => Some(held::read_back::<F>(call, answer)),
         _ => None,
     }
 }

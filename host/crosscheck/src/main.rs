@@ -1,5 +1,5 @@
 //! Compares the oracle's answers with the crate's. Arguments: the folder with the lists (tools/oracle/out if none is
-//! given), then the lists' names (all four if none is given). Ends with 1 if there is a difference.
+//! given), then the lists' names (all if none is given). Ends with 1 if there is a difference.
 
 use crosscheck::records::{answers, cases, hex};
 use crosscheck::{judge, read_back, Judge, Judged};
@@ -7,7 +7,7 @@ use factory::{OpenSsl, Soft};
 use std::path::{Path, PathBuf};
 use std::{env, fs, process};
 
-const LISTS: [&str; 4] = ["read", "opened", "built", "amended"];
+const LISTS: [&str; 5] = ["read", "opened", "built", "amended", "held"];
 
 #[derive(Default)]
 struct Counts {

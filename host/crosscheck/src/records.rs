@@ -43,6 +43,21 @@ pub struct Amend {
     pub amendments: Vec<(u32, u8)>,
 }
 
+/// A call on a frame that is held open: one amendment, or a list, whose offsets have 24 bits.
+pub struct HeldCall {
+    pub list: bool,
+    pub amendments: Vec<(u32, u8)>,
+}
+
+pub struct Hold {
+    pub network: AES128,
+    pub application: AES128,
+    pub counter: u32,
+    pub frame: Vec<u8>,
+    pub room: usize,
+    pub calls: Vec<HeldCall>,
+}
+
 /// One call with its arguments.
 pub enum Case {
     MicJoinRequest { app_key: AES128, frame: Vec<u8> },
@@ -59,6 +74,7 @@ pub enum Case {
     Amend(Amend),
     Read { frame: Vec<u8> },
     ReadClearJoinAccept { frame: Vec<u8> },
+    Hold(Hold),
 }
 
 /// Takes a record's body apart from the front.
@@ -119,6 +135,20 @@ impl<'a> Body<'a> {
         let count = self.u16();
         (0..count).map(|_| (self.u32(), self.u8())).collect()
     }
+
+    fn held_call(&mut self) -> HeldCall {
+        if self.u8() == 0 {
+            return HeldCall { list: false, amendments: vec![(self.u32(), self.u8())] };
+        }
+        let count = self.u16();
+        let listed = |number: u32| (number >> 8, number as u8);
+        HeldCall { list: true, amendments: (0..count).map(|_| listed(self.u32())).collect() }
+    }
+
+    fn history(&mut self) -> Vec<HeldCall> {
+        let count = self.u16();
+        (0..count).map(|_| self.held_call()).collect()
+    }
 }
 
 fn build_join_request(b: &mut Body) -> Case {
@@ -170,6 +200,17 @@ fn amend(b: &mut Body) -> Case {
     })
 }
 
+fn hold(b: &mut Body) -> Case {
+    Case::Hold(Hold {
+        network: b.key(),
+        application: b.key(),
+        counter: b.u32(),
+        frame: b.bytes(),
+        room: b.u16(),
+        calls: b.history(),
+    })
+}
+
 fn case(body: &[u8]) -> Case {
     let mut b = Body(body);
     let b = &mut b;
@@ -195,6 +236,7 @@ fn case(body: &[u8]) -> Case {
         12 => amend(b),
         13 => Case::Read { frame: b.bytes() },
         14 => Case::ReadClearJoinAccept { frame: b.bytes() },
+        15 => hold(b),
         kind => panic!("a record of kind {kind}"),
     };
     assert!(b.0.is_empty(), "a record that is longer than its fields");

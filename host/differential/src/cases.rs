@@ -2,7 +2,7 @@
 
 use crate::frames;
 use crate::random::Random;
-use crosscheck::records::{Amend, BuildData, BuildJoinAccept, BuildJoinRequest, Case};
+use crosscheck::records::{Amend, BuildData, BuildJoinAccept, BuildJoinRequest, Case, HeldCall, Hold};
 
 /// Each first byte, length and byte 5 to that depth, the other bytes random, through the reader; above 40 bytes byte 5
 /// by its low half only, which is the half that matters to the places.
@@ -46,6 +46,8 @@ pub fn every_short_frame(random: &mut Random, mut run: impl FnMut(&Case)) {
                 for kind in FRAME_CALLS {
                     run(&with_frame(random, kind, frame.clone()));
                 }
+                let (network, counter) = (random.key(), random.word());
+                run(&held(random, network, counter, frame));
             }
         }
     }
@@ -179,6 +181,38 @@ fn on_data(random: &mut Random) -> Case {
             Case::Amend(Amend { network, application, counter, frame, amendments })
         }
     }
+}
+
+/// One amendment, or a list of up to eight, whose offsets go over in 24 bits.
+fn held_call(random: &mut Random, frame: &[u8]) -> HeldCall {
+    let mut drawn = amendments(random, frame);
+    let list = random.one_in(2) || drawn.is_empty();
+    match list {
+        true => drawn.iter_mut().for_each(|(offset, _)| *offset &= 0xff_ffff),
+        false => drawn.truncate(1),
+    }
+    HeldCall { list, amendments: drawn }
+}
+
+/// Up to six calls on that frame; room for it mostly, and now and then too little, just enough or more.
+fn held(random: &mut Random, network: lorawan::keys::AES128, counter: u32, frame: Vec<u8>) -> Case {
+    let count = random.below(7);
+    let calls = (0..count).map(|_| held_call(random, &frame)).collect();
+    let room = match random.below(8) {
+        0 => random.below(300),
+        1 => frame.len().saturating_sub(1),
+        2 => frame.len(),
+        _ => 255,
+    };
+    Case::Hold(Hold { network, application: random.key(), counter, frame, room, calls })
+}
+
+/// A history of calls on a frame that is held open: mostly one with a good MIC under the counter that is given.
+pub fn any_held(random: &mut Random) -> Case {
+    let (network, signed) = (random.key(), random.word());
+    let frame = data_frame(random, &network, signed);
+    let counter = if random.one_in(8) { signed ^ 1 << random.below(32) } else { signed };
+    held(random, network, counter, frame)
 }
 
 fn on_join(random: &mut Random) -> Case {

@@ -2,9 +2,10 @@
 
 use crate::encode::encode;
 use crate::port::{answer, refused};
-use crosscheck::records::{hex, Amend, BuildData, BuildJoinAccept, Case};
-use crosscheck::{amended, judge, read_back, Judged};
+use crosscheck::records::{hex, Amend, BuildData, BuildJoinAccept, Case, Hold};
+use crosscheck::{amended, held, judge, read_back, Judged};
 use factory::OpenSsl;
+use lorawan::keys::AES128;
 
 #[derive(Clone, Copy, Default)]
 pub struct Tally {
@@ -78,6 +79,40 @@ fn amendment_differs(call: &Amend, ours: &[u8]) -> Option<String> {
     (theirs == 0 && !amended::read_back::<OpenSsl>(call, &accepted)).then(|| "reads it otherwise".into())
 }
 
+/// The same history as one list of its accepted amendments, made on the frame as bytes: number and frame.
+fn made_at_once(call: &Hold, numbers: &[u8]) -> Vec<u8> {
+    let accepted = call.calls.iter().zip(numbers).filter(|(_, &number)| number == 0);
+    answer(&Case::Amend(Amend {
+        network: AES128(call.network.0),
+        application: AES128(call.application.0),
+        counter: call.counter,
+        frame: call.frame.clone(),
+        amendments: accepted.flat_map(|(made, _)| made.amendments.clone()).collect(),
+    }))
+}
+
+/// What the crate, or the call on the frame as bytes, says to a history on a frame held open; none if the same.
+fn holding_differs(call: &Hold, ours: &[u8]) -> Option<String> {
+    let theirs = match held::opening::<OpenSsl>(call) {
+        Judged::Outside => 12,
+        Judged::Number(number) => number,
+        Judged::Whole(answer) => answer[0],
+    };
+    if ours[0] != theirs {
+        return Some(format!("{theirs:02x}"));
+    }
+    if theirs != 0 {
+        return None;
+    }
+    if !held::read_back::<OpenSsl>(call, ours) {
+        return Some("reads it otherwise".into());
+    }
+    let (numbers, taken) = ours[1..].split_at(call.calls.len());
+    let at_once = made_at_once(call, numbers);
+    let same = at_once[0] == 0 && (taken[0] != 0 || taken[3..].starts_with(&at_once[1..]));
+    (!same).then(|| format!("is no judge, one list gives {}", hex(&at_once)))
+}
+
 impl Tally {
     fn differs(&mut self, case: &Case, ours: &[u8], crate_says: &str) {
         self.differences += 1;
@@ -118,6 +153,14 @@ impl Tally {
             self.by_number += 1;
             self.read_back += usize::from(ours[0] == 0);
             if let Some(says) = amendment_differs(call, &ours) {
+                self.differs(case, &ours, &says);
+            }
+            return;
+        }
+        if let Case::Hold(call) = case {
+            self.by_number += 1;
+            self.read_back += usize::from(ours[0] == 0);
+            if let Some(says) = holding_differs(call, &ours) {
                 self.differs(case, &ours, &says);
             }
             return;

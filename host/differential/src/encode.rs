@@ -1,6 +1,6 @@
 //! Case files, as tools/oracle/README.md has them: the counterpart of crosscheck's `records`.
 
-use crosscheck::records::{Amend, BuildData, BuildJoinAccept, BuildJoinRequest, Case};
+use crosscheck::records::{Amend, BuildData, BuildJoinAccept, BuildJoinRequest, Case, HeldCall, Hold};
 use lorawan::keys::AES128;
 
 fn bytes(part: &[u8]) -> Vec<u8> {
@@ -51,6 +51,22 @@ fn amend(call: &Amend) -> Vec<u8> {
     [&[12], &keys[..], &call.counter.to_le_bytes(), &bytes(&call.frame), &list].concat()
 }
 
+fn held_call(call: &HeldCall) -> Vec<u8> {
+    if let (false, [(offset, value)]) = (call.list, &call.amendments[..]) {
+        return [&[0], &offset.to_le_bytes()[..], &[*value]].concat();
+    }
+    let count = (call.amendments.len() as u16).to_le_bytes();
+    let numbers = call.amendments.iter().flat_map(|&(offset, value)| (offset << 8 | u32::from(value)).to_le_bytes());
+    [1].into_iter().chain(count).chain(numbers).collect()
+}
+
+fn hold(call: &Hold) -> Vec<u8> {
+    let keys = [call.network.0, call.application.0].concat();
+    let head = [&[15], &keys[..], &call.counter.to_le_bytes(), &bytes(&call.frame), &room(call.room)].concat();
+    let count = (call.calls.len() as u16).to_le_bytes();
+    head.into_iter().chain(count).chain(call.calls.iter().flat_map(held_call)).collect()
+}
+
 /// A record's body.
 pub fn encode(case: &Case) -> Vec<u8> {
     match case {
@@ -76,6 +92,7 @@ pub fn encode(case: &Case) -> Vec<u8> {
         Case::Amend(call) => amend(call),
         Case::Read { frame } => [&[13], &bytes(frame)[..]].concat(),
         Case::ReadClearJoinAccept { frame } => [&[14], &bytes(frame)[..]].concat(),
+        Case::Hold(call) => hold(call),
     }
 }
 

@@ -303,10 +303,21 @@ fn other_type() -> Shown {
     shown(read.into(), refused(answer, frame == [0; 23]), "a join-request, which has no decryption", "4, unchanged")
 }
 
+/// The crate takes NwkID out of the address's low byte, which is the first in a frame.
+fn network_of_an_address() -> Shown {
+    let mut frame = [0x40, 1, 2, 3, 4, 0, 0, 0, 0, 0, 0, 0];
+    let ours = match port::read(&frame) {
+        Ok(port::Reading::Data(data)) => format!("{}", data.nwk_id()),
+        other => format!("{other:?}"),
+    };
+    let theirs = parsed_data::<OpenSsl>(&mut frame).map_or(0xff, |data| data.fhdr().dev_addr().nwk_id());
+    shown(format!("{theirs}"), ours, "0", "2")
+}
+
 type Difference = (&'static str, fn() -> Shown);
 
-/// In the order of the document's rows.
-const ALL: [Difference; 16] = [
+/// In the order of the numbers of the document's rows.
+const ALL: [Difference; 17] = [
     ("a join-accept with a channel list", channel_list),
     ("a frame of 256 bytes, read", long_frame),
     ("a frame of 256 bytes, built into 256", long_building),
@@ -323,6 +334,7 @@ const ALL: [Difference; 16] = [
     ("a join-accept into 1 to 12 bytes", join_accept_into_short),
     ("a channel list into 17 bytes", list_into_seventeen),
     ("a frame of 256 bytes, built into 255", long_building_into_255),
+    ("NwkID of an address", network_of_an_address),
 ];
 
 /// Shows each and gives how many are not as written.

@@ -1,5 +1,6 @@
-//! Arguments: a seed (the clock's if none is given), then how many random cases (a million if not said). Ends with 1 if
-//! there is a difference, or if an intended one is not as docs/DIFFERENCES.md says.
+//! Arguments: a seed (the clock's if none is given), then how many random cases (a million if not said); a quarter as many
+//! more are drawn on frames held open. Ends with 1 if there is a difference, or if an intended one is not as
+//! docs/DIFFERENCES.md says.
 
 use differential::compare::Tally;
 use differential::random::Random;
@@ -40,6 +41,7 @@ fn main() {
     part("every short frame, in each call", &mut |r, t| cases::every_short_frame(r, |case| t.case(case)));
     part("every length of commands and payload, built", &mut |r, t| cases::every_data_building(r, |case| t.case(case)));
     part("random", &mut |r, t| (0..count).for_each(|_| t.case(&cases::any(r))));
+    part("random histories on held frames", &mut |r, t| (0..count / 4).for_each(|_| t.case(&cases::any_held(r))));
     println!(
         "seed {seed}: {} cases in {} s, {} intended differences not as written, {} differences",
         tally.cases,

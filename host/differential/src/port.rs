@@ -1,6 +1,6 @@
 //! The port on a case, its answer laid out as the oracle lays it out. Whatever is lent lies between guard bytes.
 
-use crosscheck::records::{Amend, BuildData, BuildJoinAccept, BuildJoinRequest, Case};
+use crosscheck::records::{Amend, BuildData, BuildJoinAccept, BuildJoinRequest, Case, HeldCall, Hold};
 use lorawan::keys::AES128;
 use zinovoky::*;
 
@@ -130,11 +130,36 @@ fn data(call: &BuildData) -> Vec<u8> {
     built(call.room, |out| fields.build_into(&keys.0, &keys.1, out))
 }
 
+fn listed(amendments: &[(u32, u8)]) -> Vec<Amendment> {
+    amendments.iter().map(|&(offset, value)| Amendment::new(offset as usize, value)).collect()
+}
+
 /// The list as a whole: one number, then the frame.
 fn amended(call: &Amend) -> Vec<u8> {
-    let list: Vec<Amendment> = call.amendments.iter().map(|&(at, value)| Amendment::new(at as usize, value)).collect();
-    let keys = (NwkSKey(call.network.0), AppSKey(call.application.0));
+    let (list, keys) = (listed(&call.amendments), (NwkSKey(call.network.0), AppSKey(call.application.0)));
     changed(&call.frame, |frame| amend(frame, &keys.0, &keys.1, call.counter, &list))
+}
+
+fn held_call(open: &mut OpenFrame, call: &HeldCall) -> u8 {
+    let before = open.frame();
+    let answer = match call.amendments[..] {
+        [(offset, value)] if !call.list => open.amend(offset as usize, value),
+        _ => open.amend_list(&listed(&call.amendments)),
+    };
+    assert!(answer.is_ok() || open.frame() == before, "a refused amendment changed the frame");
+    number(&answer)
+}
+
+/// The opening's number, each call's, and the frame taken out. Where the opening is refused there is no open frame.
+fn held(call: &Hold) -> Vec<u8> {
+    let keys = (NwkSKey(call.network.0), AppSKey(call.application.0));
+    match OpenFrame::open(&call.frame, &keys.0, &keys.1, call.counter) {
+        Err(refusal) => vec![refusal.number()],
+        Ok(mut open) => {
+            let numbers: Vec<u8> = call.calls.iter().map(|made| held_call(&mut open, made)).collect();
+            [&[0], &numbers[..], &built(call.room, |slice| open.frame_into(slice))].concat()
+        }
+    }
 }
 
 fn keys(clear: &[u8], dev_nonce: &[u8; 2], app_key: &AES128) -> Vec<u8> {
@@ -171,6 +196,7 @@ pub fn answer(case: &Case) -> Vec<u8> {
         Case::Amend(call) => amended(call),
         Case::Read { frame } => reading(frame),
         Case::ReadClearJoinAccept { frame } => clear_reading(frame),
+        Case::Hold(call) => held(call),
     }
 }
 
@@ -189,6 +215,6 @@ pub fn refused(case: &Case, number: u8) -> Vec<u8> {
         Case::BuildJoinRequest(call) => slice(call.room),
         Case::BuildJoinAccept(call) => slice(call.room),
         Case::BuildData(call) => slice(call.room),
-        Case::Read { .. } | Case::ReadClearJoinAccept { .. } => with(&[]),
+        Case::Read { .. } | Case::ReadClearJoinAccept { .. } | Case::Hold(_) => with(&[]),
     }
 }

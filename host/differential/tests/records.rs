@@ -2,7 +2,7 @@
 
 use crosscheck::records::{answers, cases};
 use crosscheck::{judge, Judge, Judged};
-use differential::cases::any;
+use differential::cases::{any, any_held};
 use differential::encode::record;
 use differential::random::Random;
 use factory::{OpenSsl, Soft};
@@ -11,7 +11,8 @@ use std::path::Path;
 #[test]
 fn written_and_read() {
     let mut random = Random::new(7);
-    let file: Vec<u8> = (0..5000).flat_map(|_| record(&any(&mut random))).collect();
+    let drawn = (0..6000).map(|i| if i < 5000 { any(&mut random) } else { any_held(&mut random) });
+    let file: Vec<u8> = drawn.flat_map(|case| record(&case)).collect();
     let again: Vec<u8> = cases(&file).iter().flat_map(record).collect();
     assert_eq!(file, again);
 }

@@ -47,6 +47,11 @@ impl ClearJoinAccept {
         &self.fixed[6..10]
     }
 
+    /// The network of the address: see [`crate::nwk_id`].
+    pub fn nwk_id(&self) -> u8 {
+        ffi::nwk_id(&bytes_at(&self.fixed, 6))
+    }
+
     pub fn dl_settings(&self) -> u8 {
         self.fixed[10]
     }

@@ -11,6 +11,7 @@ mod c {
         pub fn zinovoky_read(frame: *const u8, frame_len: usize) -> u64;
         pub fn zinovoky_join_request_fields(frame: *const u8, len: usize, fields: *mut u8, fields_len: usize) -> u64;
         pub fn zinovoky_join_accept_fields(frame: *const u8, len: usize, fields: *mut u8, fields_len: usize) -> u64;
+        pub fn zinovoky_nwk_id(dev_addr: *const u8) -> u8;
         pub fn zinovoky_join_request_mic(frame: *const u8, len: usize, app_key: *const u8, passes: *mut u8) -> u64;
         pub fn zinovoky_join_accept_mic(frame: *const u8, len: usize, app_key: *const u8, passes: *mut u8) -> u64;
         pub fn zinovoky_data_mic(frame: *const u8, len: usize, key: *const u8, counter: u32, passes: *mut u8) -> u64;
@@ -139,6 +140,12 @@ pub fn join_accept_fields(frame: &[u8]) -> Result<[u8; 42]> {
     // SAFETY: see the head of the file; `fields` has the room that is asked for.
     answered(unsafe { c::zinovoky_join_accept_fields(frame.as_ptr(), frame.len(), place, room) })?;
     Ok(fields)
+}
+
+#[inline]
+pub fn nwk_id(dev_addr: &[u8; 4]) -> u8 {
+    // SAFETY: see the head of the file.
+    unsafe { c::zinovoky_nwk_id(dev_addr.as_ptr()) }
 }
 
 #[inline]

@@ -47,7 +47,7 @@ pub use opening::{
     amend, data_mic, decrypt_data, decrypt_data_checked, decrypt_join_accept, decrypt_join_accept_checked,
     join_accept_mic, join_request_mic, session_keys, Amendment,
 };
-pub use reading::{read, DataFields, DataKind, JoinRequestFields, Payload, Reading};
+pub use reading::{nwk_id, read, DataFields, DataKind, JoinRequestFields, Payload, Reading};
 pub use refusal::Refusal;
 
 pub type Result<T> = std::result::Result<T, Refusal>;

@@ -105,6 +105,12 @@ impl<'a> DataFields<'a> {
         &self.fixed[1..5]
     }
 
+    /// The network of the address: see [`nwk_id`].
+    #[inline]
+    pub fn nwk_id(&self) -> u8 {
+        nwk_id(&bytes_at(self.fixed, 1))
+    }
+
     #[inline]
     pub const fn fctrl(&self) -> u8 {
         self.packed.fctrl()
@@ -170,6 +176,23 @@ impl<'a> DataFields<'a> {
 /// So many of the bytes that an answer has, from a place on.
 pub(crate) fn bytes_at<const N: usize>(answer: &[u8], from: usize) -> [u8; N] {
     std::array::from_fn(|i| answer.get(from + i).copied().unwrap_or(0))
+}
+
+/// NwkID of an address in frame order: its seven highest bits, which are those of its last byte (LoRaWAN 1.0, 6.1.1).
+///
+/// ```
+/// use zinovoky::{nwk_id, read, Reading, Refusal};
+/// assert_eq!(nwk_id(&[1, 2, 3, 4]), 2);
+/// assert_eq!(nwk_id(&[0, 0, 0, 0xff]), 127);
+///
+/// let frame = [0x40, 4, 3, 2, 0xfe, 0, 5, 0, 0x11, 0x22, 0x33, 0x44];
+/// let Reading::Data(data) = read(&frame)? else { panic!("another type") };
+/// assert_eq!(data.nwk_id(), nwk_id(&[4, 3, 2, 0xfe]));
+/// # Ok::<(), Refusal>(())
+/// ```
+#[inline]
+pub fn nwk_id(dev_addr: &[u8; 4]) -> u8 {
+    ffi::nwk_id(dev_addr)
 }
 
 /// Reads a frame of at most 255 bytes.

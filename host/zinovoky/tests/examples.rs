@@ -46,6 +46,20 @@ fn accepted() {
     assert_eq!((data(&commands).port(), data(&commands).payload()), (Some(0), Payload::Commands(&[7])));
 }
 
+/// The last byte of an address in frame order decides, wherever the address stands.
+#[test]
+fn network() {
+    for last in 0..=255_u8 {
+        let addr = [!last, last ^ 0x55, last.wrapping_mul(3), last];
+        let mut bytes = frame(0x60, 12, &[]);
+        bytes[1..5].copy_from_slice(&addr);
+        let mut clear = frame(0x20, 17, &[]);
+        clear[7..11].copy_from_slice(&addr);
+        let accept = ClearJoinAccept::read(&clear).unwrap();
+        assert_eq!([nwk_id(&addr), data(&bytes).nwk_id(), accept.nwk_id()], [last >> 1; 3]);
+    }
+}
+
 const KEYS: (NwkSKey, AppSKey) = (NwkSKey([2; 16]), AppSKey([1; 16]));
 
 /// P14: the high half is the caller's, the low half the frame's.

@@ -1,0 +1,195 @@
+#!/usr/bin/env python3
+"""Writes host/c/expected.h: what host/c/every_call.c lends to each call of the C interface, and what must come of it.
+
+Run: python3 tools/oracle/c_values.py. All that is computed here is computed by oracle.py; the codec is not asked.
+"""
+
+import pathlib
+
+import generate
+import oracle
+
+HEADER = pathlib.Path(__file__).resolve().parent.parent.parent / "host" / "c" / "expected.h"
+NETWORK, APPLICATION = generate.DOCUMENTED_NETWORK_KEY, generate.DOCUMENTED_APPLICATION_KEY
+DATA, REQUEST, ACCEPT = generate.DOCUMENTED_DATA, generate.DOCUMENTED_JOIN_REQUEST, generate.DOCUMENTED_JOIN_ACCEPT
+
+# A confirmed frame down with commands as its payload, and an unconfirmed one down with FOpts and text.
+DOWN_FIELDS = oracle.DataFields(True, False, bytes.fromhex("112233f4"), 0x30, 0x0001FFFE, 0)
+DOWN_COMMANDS = bytes(range(17))
+FOPTS_FIELDS = oracle.DataFields(False, False, bytes.fromhex("00ff00fe"), 0x90, 0xFFFFFFFE, 200)
+FOPTS_COMMANDS, FOPTS_PAYLOAD = b"\2\3", b"twenty bytes of text"
+BARE_FIELDS = oracle.DataFields(False, True, bytes(4), 0, 0, None)
+LONGEST_FIELDS = oracle.DataFields(True, True, bytes.fromhex("04030201"), 0, 1, 1)
+
+PREAMBLE = """\
+/* Written by tools/oracle/c_values.py, from the rules and over OpenSSL: what every_call.c lends, and what must come of it. */
+#ifndef EXPECTED_H
+#define EXPECTED_H
+
+#include <stddef.h>
+#include <stdint.h>
+"""
+
+READING = """
+/* A frame, its reading as one number, and the fields that are taken out of that; of a refused frame the refusal alone. */
+struct reading {
+    const char *what;
+    const uint8_t *frame;
+    size_t len;
+    uint64_t reading;
+    uint64_t refusal, type, has_port, port, payload_kind, payload_at, payload_len, mic_at, fctrl, fopts_len, fcnt;
+};
+"""
+
+
+def array(name, value, comment):
+    """A constant array, sixteen bytes to a line; C fills it up with the zeros at its end."""
+    written = value.rstrip(b"\0") or b"\0"
+    lines = [", ".join(f"0x{b:02x}" for b in written[i : i + 16]) for i in range(0, len(written), 16)]
+    return f"\n/* {comment} */\nstatic const uint8_t {name}[{len(value)}] = {{\n    " + ",\n    ".join(lines) + "};\n"
+
+
+def fields(frame):
+    """What the inline functions of the header take out of a reading, in the order of the struct above."""
+    try:
+        reading = oracle.read(frame)
+    except oracle.Refused as refusal:
+        return [refusal.number] + [0] * 10
+    if not isinstance(reading, oracle.Data):
+        mic = len(frame) - 4
+        return [0, reading.mtype, 0, 0, 0, mic, 0, mic, 0, 0, 0]
+    at, end = reading.payload or (len(frame) - 4, len(frame) - 4)
+    kind = 0 if reading.payload is None else 2 if reading.commands else 1
+    has_port, port = int(reading.port is not None), reading.port or 0
+    header = [reading.fctrl, reading.fctrl % 16, reading.fcnt]
+    return [0, reading.mtype, has_port, port, kind, at, end - at, end, *header]
+
+
+def packed(values):
+    """The number that the header's table of bits makes of them."""
+    refusal, mtype, has_port, port, kind, at, _, mic, fctrl, _, fcnt = values
+    if refusal:
+        return refusal
+    return mtype << 8 | has_port << 11 | kind << 12 | port << 16 | at << 24 | mic << 32 | fctrl << 40 | fcnt << 48
+
+
+def reading_row(what, name, frame):
+    values = fields(frame)
+    listed = ", ".join(str(v) for v in values)
+    return f'    {{"zinovoky_read of {what}", {name}, {len(frame)}, 0x{packed(values):016x}, {listed}}},\n'
+
+
+def build(of, commands, payload):
+    return oracle.build_data(of, commands, payload, NETWORK, APPLICATION, 255)
+
+
+def clear_accept(rest):
+    """A clear join-accept with these bytes behind the first, under the documented key."""
+    message = bytes([0x20]) + rest
+    return message + oracle.mic(generate.DOCUMENTED_APP_KEY, message)
+
+
+def request_fields(frame):
+    reading = oracle.read_as(oracle.JoinRequest, frame)
+    return b"".join(frame[slice(*p)] for p in (reading.app_eui, reading.dev_eui, reading.dev_nonce, reading.mic))
+
+
+def accept_fields(frame):
+    said = oracle.read_clear_join_accept(frame)
+    fixed = b"".join(frame[slice(*p)] for p in (said.app_nonce, said.net_id, said.dev_addr))
+    kind = 1 if said.channels else 2 if said.masks else 0
+    masks = frame[slice(*said.masks)] if said.masks else bytes(9)
+    frequencies = b"".join(c.to_bytes(4, "little") for c in said.channels or [0] * 5)
+    return fixed + bytes([said.dl_settings, said.rx_delay, kind]) + masks + frequencies
+
+
+def join_messages():
+    clear = oracle.decrypt_join_accept(generate.DOCUMENTED_APP_KEY, ACCEPT)
+    row_1 = bytes([1] * 3), bytes([1] * 3), bytes([1] * 4), 2, 1
+    listed = oracle.build_join_accept(*row_1, [8678000, 8676000], bytes([1] * 16), 33)
+    listed_clear = oracle.decrypt_join_accept(bytes([1] * 16), listed)
+    masks = clear_accept(bytes(range(1, 11)) + b"\x47\xf5" + bytes(range(0xC0, 0xCF)) + b"\1")
+    keys = oracle.session_keys(generate.DOCUMENTED_APP_KEY, generate.DOCUMENTED_DEV_NONCE, clear)
+    return [
+        ("APP_KEY", generate.DOCUMENTED_APP_KEY, "the key of that join-accept"),
+        ("REQUEST", REQUEST, "the join-request of the crate's documentation, under APP"),
+        ("REQUEST_FIELDS", request_fields(REQUEST), "its fields"),
+        ("ACCEPT", ACCEPT, "the join-accept of the crate's documentation"),
+        ("ACCEPT_CLEAR", clear, "decrypted"),
+        ("ACCEPT_FIELDS", accept_fields(clear), "its fields: no list"),
+        ("DEV_NONCE", generate.DOCUMENTED_DEV_NONCE, "the nonce of its session"),
+        ("SESSION_KEYS", keys[0] + keys[1], "the keys of its session"),
+        ("LISTED", listed, "docs/DIFFERENCES.md, row 1, under APP"),
+        ("LISTED_CLEAR", listed_clear, "decrypted"),
+        ("LISTED_FIELDS", accept_fields(listed_clear), "its fields: two frequencies"),
+        ("MASKS_CLEAR", masks, "a clear join-accept with nine masks, RxDelay 0xf5, under APP_KEY"),
+        ("MASKS_FIELDS", accept_fields(masks), "its fields"),
+    ]
+
+
+def data_frames():
+    bare = build(BARE_FIELDS, b"", b"")
+    port_alone = build(BARE_FIELDS._replace(port=9), b"", b"")
+    return [
+        ("NWK", NETWORK, "the network key of all data frames here"),
+        ("APP", APPLICATION, "their application key"),
+        ("DATA", DATA, "the data frame of the crate's documentation: counter 1, port 1, hello"),
+        ("DATA_CLEAR", oracle.decrypt_data(NETWORK, APPLICATION, 1, DATA), "decrypted"),
+        ("DOWN", build(DOWN_FIELDS, DOWN_COMMANDS, b""), "confirmed down, counter 0x1fffe, commands on port 0"),
+        ("DOWN_CLEAR", oracle.decrypt_data(NETWORK, None, 0x0001FFFE, build(DOWN_FIELDS, DOWN_COMMANDS, b"")), "decrypted"),
+        ("DOWN_ADDR", DOWN_FIELDS.dev_addr, "its address"),
+        ("DOWN_COMMANDS", DOWN_COMMANDS, "its commands"),
+        ("FOPTS", build(FOPTS_FIELDS, FOPTS_COMMANDS, FOPTS_PAYLOAD), "unconfirmed down, counter 0xfffffffe, FOpts, port 200"),
+        ("FOPTS_ADDR", FOPTS_FIELDS.dev_addr, "its address"),
+        ("FOPTS_COMMANDS", FOPTS_COMMANDS, "its commands"),
+        ("FOPTS_PAYLOAD", FOPTS_PAYLOAD, "its payload"),
+        ("BARE", bare, "up, counter 0, neither port nor payload"),
+        ("PORT_ALONE", port_alone, "the same with port 9 and no payload behind it"),
+        ("LONGEST", build(LONGEST_FIELDS, b"", bytes(242)), "confirmed up, counter 1, port 1, 242 zeros: 255 bytes"),
+        ("VERSION", bytes([0x41]) + bytes(11), "docs/RULES.md: version 1"),
+        ("TYPE_6", bytes([0xC0]) + bytes(11), "type 6"),
+        ("HEADER_SHORT", bytes([0x40, 0, 0, 0, 0, 1]) + bytes(6), "FOpts that are not there"),
+        ("LONG", bytes([0x40] * 256), "256 bytes"),
+    ]
+
+
+def held_frames():
+    jello = oracle.amend_all(NETWORK, APPLICATION, 1, DATA, [(0, ord("j"))])[2]
+    jelly = oracle.amend_all(NETWORK, APPLICATION, 1, DATA, [(0, ord("j")), (3, ord("l")), (4, ord("y"))])[2]
+    hold = lambda frame: oracle.held_bytes(NETWORK, APPLICATION, 1, frame)
+    return [
+        ("JELLO", jello, "DATA with the first byte of its payload set to j, built afresh"),
+        ("JELLY", jelly, "and with l and y at offsets 3 and 4"),
+        ("HELD_DATA", hold(DATA), "the bytes that hold DATA open (docs/RULES.md, Amendments)"),
+        ("HELD_JELLO", hold(jello), "JELLO held open"),
+        ("HELD_JELLY", hold(jelly), "JELLY held open"),
+        ("HELD_BARE", oracle.held_bytes(NETWORK, APPLICATION, 0, build(BARE_FIELDS, b"", b"")), "BARE held open"),
+        ("HELD_LONGEST", hold(build(LONGEST_FIELDS, b"", bytes(242))), "LONGEST held open"),
+        ("HELD_NOTHING", bytes(868), "a buffer that holds a frame of no bytes"),
+    ]
+
+
+def readings(arrays):
+    frames = {name: value for name, value, _ in arrays}
+    wholes = "DATA DOWN FOPTS BARE PORT_ALONE LONGEST REQUEST ACCEPT LISTED VERSION TYPE_6 HEADER_SHORT LONG".split()
+    cuts = [("no byte", "DATA", 0), ("eleven bytes", "DATA", 11), ("a join-request cut short", "REQUEST", 22)]
+    rows = [reading_row(name, name, frames[name]) for name in wholes]
+    rows += [reading_row(what, name, frames[name][:length]) for what, name, length in cuts]
+    return "\nstatic const struct reading READINGS[] = {\n" + "".join(rows) + "};\n"
+
+
+def nwk_ids():
+    addresses = [bytes.fromhex(a) for a in ("04030201", "112233f4", "00ff00fe", "fefefe01", "000000ff", "ffffff00")]
+    rows = "".join(f"    {{{{{', '.join(map(str, a))}}}, {oracle.nwk_id(a)}}},\n" for a in addresses)
+    head = "\n/* Addresses in frame order, and their NwkID. */\nstatic const struct { uint8_t addr[4], nwk_id; } NWK_IDS[] = {\n"
+    return head + rows + "};\n"
+
+
+def text():
+    arrays = data_frames() + join_messages() + held_frames()
+    parts = [array(*entry) for entry in arrays]
+    return PREAMBLE + "".join(parts) + READING + readings(arrays) + nwk_ids() + "\n#endif\n"
+
+
+if __name__ == "__main__":
+    HEADER.write_text(text())
