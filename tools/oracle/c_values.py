@@ -111,7 +111,7 @@ def join_messages():
     masks = clear_accept(bytes(range(1, 11)) + b"\x47\xf5" + bytes(range(0xC0, 0xCF)) + b"\1")
     keys = oracle.session_keys(generate.DOCUMENTED_APP_KEY, generate.DOCUMENTED_DEV_NONCE, clear)
     return [
-        ("APP_KEY", generate.DOCUMENTED_APP_KEY, "the key of that join-accept"),
+        ("APP_KEY", generate.DOCUMENTED_APP_KEY, "the AppKey of ACCEPT and MASKS_CLEAR"),
         ("REQUEST", REQUEST, "the join-request of the crate's documentation, under APP"),
         ("REQUEST_FIELDS", request_fields(REQUEST), "its fields"),
         ("ACCEPT", ACCEPT, "the join-accept of the crate's documentation"),
@@ -128,18 +128,19 @@ def join_messages():
 
 
 def data_frames():
-    bare = build(BARE_FIELDS, b"", b"")
+    bare, down = build(BARE_FIELDS, b"", b""), build(DOWN_FIELDS, DOWN_COMMANDS, b"")
+    fopts = build(FOPTS_FIELDS, FOPTS_COMMANDS, FOPTS_PAYLOAD)
     port_alone = build(BARE_FIELDS._replace(port=9), b"", b"")
     return [
         ("NWK", NETWORK, "the network key of all data frames here"),
         ("APP", APPLICATION, "their application key"),
         ("DATA", DATA, "the data frame of the crate's documentation: counter 1, port 1, hello"),
         ("DATA_CLEAR", oracle.decrypt_data(NETWORK, APPLICATION, 1, DATA), "decrypted"),
-        ("DOWN", build(DOWN_FIELDS, DOWN_COMMANDS, b""), "confirmed down, counter 0x1fffe, commands on port 0"),
-        ("DOWN_CLEAR", oracle.decrypt_data(NETWORK, None, 0x0001FFFE, build(DOWN_FIELDS, DOWN_COMMANDS, b"")), "decrypted"),
+        ("DOWN", down, "confirmed down, counter 0x1fffe, commands on port 0"),
+        ("DOWN_CLEAR", oracle.decrypt_data(NETWORK, None, 0x0001FFFE, down), "decrypted"),
         ("DOWN_ADDR", DOWN_FIELDS.dev_addr, "its address"),
         ("DOWN_COMMANDS", DOWN_COMMANDS, "its commands"),
-        ("FOPTS", build(FOPTS_FIELDS, FOPTS_COMMANDS, FOPTS_PAYLOAD), "unconfirmed down, counter 0xfffffffe, FOpts, port 200"),
+        ("FOPTS", fopts, "unconfirmed down, counter 0xfffffffe, FOpts, port 200"),
         ("FOPTS_ADDR", FOPTS_FIELDS.dev_addr, "its address"),
         ("FOPTS_COMMANDS", FOPTS_COMMANDS, "its commands"),
         ("FOPTS_PAYLOAD", FOPTS_PAYLOAD, "its payload"),
@@ -181,8 +182,8 @@ def readings(arrays):
 def nwk_ids():
     addresses = [bytes.fromhex(a) for a in ("04030201", "112233f4", "00ff00fe", "fefefe01", "000000ff", "ffffff00")]
     rows = "".join(f"    {{{{{', '.join(map(str, a))}}}, {oracle.nwk_id(a)}}},\n" for a in addresses)
-    head = "\n/* Addresses in frame order, and their NwkID. */\nstatic const struct { uint8_t addr[4], nwk_id; } NWK_IDS[] = {\n"
-    return head + rows + "};\n"
+    head = "\n/* Addresses in frame order, and their NwkID. */\n"
+    return head + "static const struct { uint8_t addr[4], nwk_id; } NWK_IDS[] = {\n" + rows + "};\n"
 
 
 def text():

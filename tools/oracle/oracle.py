@@ -367,8 +367,8 @@ def amend_list(clear, amendments):
 def hold(network_key, application_key, counter, frame, calls):
     """The opening's number, the number of each call, and the frame that is held in the end.
 
-    A call is one amendment (a pair) or a list of them. A refused opening leaves a buffer of zeros, which holds a frame of no
-    bytes: each amendment to it is refused, and only a list without one is made.
+    A call is one amendment (a pair) or a list of them. A refused opening leaves a buffer of zeros, which holds a frame
+    of no bytes: each amendment to it is refused, and only a list without one is made.
     """
     lists = [call if isinstance(call, list) else [call] for call in calls]
     try:
@@ -393,7 +393,10 @@ def take_out(held, room):
 
 
 def amend_all(network_key, application_key, counter, frame, amendments):
-    """The opening's number, the number of each amendment, the caller's frame afterwards: as it was if the opening is refused."""
+    """The opening's number, the number of each amendment, the caller's frame afterwards.
+
+    Where the opening is refused the frame stays.
+    """
     number, numbers, held = hold(network_key, application_key, counter, frame, amendments)
     return number, numbers, frame if number else held
 
