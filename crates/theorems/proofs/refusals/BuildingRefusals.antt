@@ -94,7 +94,7 @@ if-no-room listed room =
 
 -- ---- each number exactly where it is due
 
-data-gives : (d : DataParts) (commands body : List ℕ) (room : ℕ)
+pub data-gives : (d : DataParts) (commands body : List ℕ) (room : ℕ)
     → Gives plain (dataConditions d commands body room) (dataRefusal d commands body room)
 unfolding dataRefusal
 data-gives d commands body room =
@@ -133,7 +133,7 @@ built-told (Frame n) = notRefused
 built-told (Refused r) = r
 
 -- what is due by the number is what is due by the answer
-answers : {cs : List Condition} {m : ℕ} (long : ℕ) → Gives plain cs m → Answers cs long (builtOf m long)
+pub answers : {cs : List Condition} {m : ℕ} (long : ℕ) → Gives plain cs m → Answers cs long (builtOf m long)
 unfolding built-told
 answers long g =
     let says : ℕ → Built = λ (n : ℕ). builtOf n long in
