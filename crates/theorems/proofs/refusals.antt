@@ -1,4 +1,5 @@
 pub mod AmendingRefusals
+pub mod BridgeRefusals
 pub mod BuildingRefusals
 pub mod FirstDue
 pub mod OpeningRefusals

@@ -39,6 +39,12 @@ abbrev pub Due : List Condition → ℕ → Type 0
 Due [] n = n ≡ 0
 Due (c ∷ cs) n = choice (eqb (c .number) n) (c .holds) (c .fails × Due cs n)
 
+-- none of them holds
+abbrev pub NoneHolds : List Condition → Type 0
+NoneHolds [] = Unit
+NoneHolds (c ∷ []) = c .fails
+NoneHolds (c ∷ (d ∷ cs)) = c .fails × NoneHolds (d ∷ cs)
+
 -- r is the refusal of none of them, and is one
 abbrev pub NotOwn : List Condition → Refusal → Type 0
 NotOwn [] r = r ≡ notRefused → ⊥

@@ -1,4 +1,5 @@
 pub mod AmendingConditions
+pub mod BridgeConditions
 pub mod BuildingConditions
 pub mod ByReading
 pub mod Exactly

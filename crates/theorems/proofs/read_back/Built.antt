@@ -61,12 +61,12 @@ pub record DataAnswers (nwk app : List ℕ) (d : DataParts) (commands body f : L
   pub back : DataBack nwk app d commands body f
   pub opens : DataOpens nwk app d commands body f
 
-pub data-built : Always build-data.Learnt
+pub data-reads-back : Always build-data.Learnt
     (λ κs a r s.
     (n : ℕ) → r ≡ Frame n
     → DataAnswers (a .1 .1 .1 .0) (a .1 .1 .1 .1 .0) (a .0) (now (a .1 .0)) (now (a .1 .1 .0))
     (take n (now (s .1 .1 .1 .1 .1 .0))))
-data-built κs a r s p n q =
+data-reads-back κs a r s p n q =
     let d = a .0 in
     let commands = now (a .1 .0) in
     let body = now (a .1 .1 .0) in
@@ -79,19 +79,19 @@ data-built κs a r s p n q =
 
 -- ---- join-requests: parts, AppKey, output
 
-pub join-request-built : Always build-join-request.Learnt
+pub join-request-reads-back : Always build-join-request.Learnt
     (λ κs a r s. (n : ℕ) → r ≡ Frame n → RequestOpens (a .1 .0) (a .0) (take n (now (s .1 .1 .0))))
-join-request-built κs a r s p n q =
+join-request-reads-back κs a r s p n q =
     let b = built-frame _ _ _ _ r (p .0) n q in
     subst (λ (f : List ℕ). RequestOpens (a .1 .0) (a .0) f) (sym (b .1))
     (request-opens (a .1 .0) (a .0) _ (join-request-back (a .1 .0) (a .0) (p .1)))
 
 -- ---- join-accepts: parts, channels, AppKey, output
 
-pub join-accept-built : Always build-join-accept.Learnt
+pub join-accept-reads-back : Always build-join-accept.Learnt
     (λ κs a r s.
     (n : ℕ) → r ≡ Frame n → AcceptOpens (a .1 .1 .0) (a .0) (now (a .1 .0)) (take n (now (s .1 .1 .1 .0))))
-join-accept-built κs a r s p n q =
+join-accept-reads-back κs a r s p n q =
     let key = a .1 .1 .0 in
     let channels = now (a .1 .0) in
     let b = built-frame _ _ _ _ r (p .0) n q in

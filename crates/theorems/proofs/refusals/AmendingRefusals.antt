@@ -32,7 +32,7 @@ use Rattle.theorems.specs.Exactly.{Exactly, Condition, _when_, _unless_,
 use Rattle.theorems.specs.ByReading.{data-frame, AfterReading}
 use Rattle.theorems.specs.OpeningConditions.{RightDataMic}
 use Rattle.theorems.specs.AmendingConditions.{Outside, outside, openThen, openConditions, amendConditions, listConditions, frameConditions, takenConditions}
-use Rattle.theorems.proofs.refusals.FirstDue.{if-when, if-unless, if-not, if-below, if-most, if-equal, fresh, Gives, through, nothing-left, past, refuses}
+use Rattle.theorems.proofs.refusals.FirstDue.{if-when, if-unless, if-not, if-below, if-most, if-equal, by-none, with-none, fresh, Gives, through, nothing-left, past, refuses}
 use Rattle.theorems.proofs.refusals.ReadFirst.{on-through, refusal-after}
 use Rattle.theorems.proofs.refusals.SomeIndex.{if-some}
 
@@ -151,7 +151,7 @@ taking s room =
     rw (through (λ (t : Taken). t .refusal) fits (record { refusal = notRefused; length = s .length }) (record { refusal = refused 7; length = 0 }))
     (refuses (past tt fits (if-unless fits (if-most (s .length) room)) nothing-left))
 
--- ---- the numbers of them, written out
+-- ---- the numbers of them and what is accepted, written out
 
 module _ (f nwk app : List ℕ) (counter : ℕ) where
   pub open-14 : Exactly (openOf f nwk app counter .refusal ≡ refused 14) (IsData f × (counter % 65536 ≡ fcnt f → ⊥))
@@ -161,17 +161,35 @@ module _ (f nwk app : List ℕ) (counter : ℕ) where
       (IsData f × ((counter % 65536 ≡ fcnt f) × (RightDataMic nwk counter f → ⊥)))
   open-5 = opening f nwk app counter .own 5 tt
 
+  pub open-accepted : Exactly (openOf f nwk app counter .refusal ≡ notRefused)
+      (IsData f × ((counter % 65536 ≡ fcnt f) × RightDataMic nwk counter f))
+  open-accepted = with-none (openConditions nwk counter f) tt (opening f nwk app counter .own 0 tt)
+
   pub frame-15 : (es : List ℕ)
       → Exactly (amendFrameOf f nwk app counter es ≡ refused 15)
       (IsData f × ((counter % 65536 ≡ fcnt f) × (RightDataMic nwk counter f × Outside (length (payload f)) es)))
   frame-15 es = amending-frame f nwk app counter es .own 15 tt
 
+  pub frame-accepted : (es : List ℕ)
+      → Exactly (amendFrameOf f nwk app counter es ≡ notRefused)
+      (IsData f × ((counter % 65536 ≡ fcnt f) × (RightDataMic nwk counter f × (Outside (length (payload f)) es → ⊥))))
+  frame-accepted es = with-none (frameConditions nwk counter f es) tt (amending-frame f nwk app counter es .own 0 tt)
+
 module _ (s : Open) where
   pub amend-15 : (k v : ℕ) → Exactly (amendOf s k v .refusal ≡ refused 15) (k < payloadLength s → ⊥)
   amend-15 k v = amending s k v .exactly 15
 
+  pub amend-accepted : (k v : ℕ) → Exactly (amendOf s k v .refusal ≡ notRefused) (k < payloadLength s)
+  amend-accepted k v = by-none (amendConditions s k) tt (amending s k v .exactly 0)
+
   pub list-15 : (es : List ℕ) → Exactly (amendListOf s es .refusal ≡ refused 15) (Outside (payloadLength s) es)
   list-15 es = amending-list s es .exactly 15
 
+  pub list-accepted : (es : List ℕ) → Exactly (amendListOf s es .refusal ≡ notRefused) (Outside (payloadLength s) es → ⊥)
+  list-accepted es = by-none (listConditions s es) tt (amending-list s es .exactly 0)
+
   pub taken-7 : (room : ℕ) → Exactly (takenOf s room .refusal ≡ refused 7) (s .length ≤ room → ⊥)
   taken-7 room = taking s room .exactly 7
+
+  pub taken-accepted : (room : ℕ) → Exactly (takenOf s room .refusal ≡ notRefused) (s .length ≤ room)
+  taken-accepted room = by-none (takenConditions s room) tt (taking s room .exactly 0)

@@ -26,7 +26,7 @@ use Rattle.frame_build.specs.declared.creator.join.JoinAcceptParts.{JoinAcceptP
 use Rattle.theorems.specs.Exactly.{Exactly, Condition, Due}
 use Rattle.theorems.specs.BuildingConditions.{NotPort0, absent, other, TooManyCommands, PayloadOnPort0, PayloadWithoutPort, dataConditions, requestConditions, WrongChannels, many, high, WrongList, NoRoom, bare, with-list, acceptConditions, Answers}
 use Rattle.theorems.proofs.refusals.SomeIndex.{SomeAt, if-some}
-use Rattle.theorems.proofs.refusals.FirstDue.{apart, if-when, if-unless, if-not, if-below, if-equal, Gives, plain, none-left, or-else, says-told, no-other, in-answer}
+use Rattle.theorems.proofs.refusals.FirstDue.{apart, if-when, if-unless, if-not, if-below, if-equal, by-none, Gives, plain, none-left, or-else, says-told, no-other, in-answer}
 
 -- ---- what the tests tell
 
@@ -94,7 +94,7 @@ if-no-room listed room =
 
 -- ---- each number exactly where it is due
 
-data-gives : (d : DataParts) (commands body : List ℕ) (room : ℕ)
+pub data-gives : (d : DataParts) (commands body : List ℕ) (room : ℕ)
     → Gives plain (dataConditions d commands body room) (dataRefusal d commands body room)
 unfolding dataRefusal
 data-gives d commands body room =
@@ -133,7 +133,7 @@ built-told (Frame n) = notRefused
 built-told (Refused r) = r
 
 -- what is due by the number is what is due by the answer
-answers : {cs : List Condition} {m : ℕ} (long : ℕ) → Gives plain cs m → Answers cs long (builtOf m long)
+pub answers : {cs : List Condition} {m : ℕ} (long : ℕ) → Gives plain cs m → Answers cs long (builtOf m long)
 unfolding built-told
 answers long g =
     let says : ℕ → Built = λ (n : ℕ). builtOf n long in
@@ -171,7 +171,7 @@ module _ (j : JoinAcceptParts) (channels : List ℕ) (room : ℕ) where
       (builtOf (joinAcceptRefusal j channels room) (length (joinAccept key j channels)))
   accept-answers key = answers (length (joinAccept key j channels)) (accept-gives j channels room)
 
--- ---- the numbers of them, written out
+-- ---- the numbers of them and what is built, written out
 
 module _ (nwk app : List ℕ) (d : DataParts) (commands body : List ℕ) (room : ℕ) where
   abbrev data-answer : Built
@@ -210,9 +210,23 @@ module _ (nwk app : List ℕ) (d : DataParts) (commands body : List ℕ) (room :
       × ((PayloadWithoutPort (d .port) body → ⊥) × (255 < dataLength d commands body))))))
   data-12 = due-at 12 (omega arith)
 
-pub request-7 : (key : List ℕ) (j : JoinRequestParts) (room : ℕ)
-    → Exactly (builtOf (joinRequestRefusal room) (length (joinRequest key j)) ≡ Refused (refused 7)) (room < 23)
-request-7 key j room = request-answers key j room .refuses 7 (omega arith)
+  pub data-built : Exactly (data-answer ≡ Frame (length (dataFrame nwk app d commands body)))
+      ((room < 255 → ⊥)
+      × ((d .fctrl % 16 ≡ 0)
+      × ((TooManyCommands (d .port) commands → ⊥)
+      × ((PayloadOnPort0 (d .port) body → ⊥)
+      × ((PayloadWithoutPort (d .port) body → ⊥) × (255 < dataLength d commands body → ⊥))))))
+  data-built = by-none (dataConditions d commands body room) tt (data-answers d commands body room nwk app .builds)
+
+module _ (key : List ℕ) (j : JoinRequestParts) (room : ℕ) where
+  abbrev request-answer : Built
+  request-answer = builtOf (joinRequestRefusal room) (length (joinRequest key j))
+
+  pub request-7 : Exactly (request-answer ≡ Refused (refused 7)) (room < 23)
+  request-7 = request-answers key j room .refuses 7 (omega arith)
+
+  pub request-built : Exactly (request-answer ≡ Frame (length (joinRequest key j))) (room < 23 → ⊥)
+  request-built = by-none (requestConditions room) tt (request-answers key j room .builds)
 
 module _ (key : List ℕ) (j : JoinAcceptParts) (channels : List ℕ) (room : ℕ) where
   abbrev accept-answer : Built
@@ -224,3 +238,7 @@ module _ (key : List ℕ) (j : JoinAcceptParts) (channels : List ℕ) (room : �
   pub accept-7 : Exactly (accept-answer ≡ Refused (refused 7))
       ((WrongList (j .«with_c_f_list») channels → ⊥) × NoRoom (j .«with_c_f_list») room)
   accept-7 = accept-answers j channels room key .refuses 7 (omega arith)
+
+  pub accept-built : Exactly (accept-answer ≡ Frame (length (joinAccept key j channels)))
+      ((WrongList (j .«with_c_f_list») channels → ⊥) × (NoRoom (j .«with_c_f_list») room → ⊥))
+  accept-built = by-none (acceptConditions j channels room) tt (accept-answers j channels room key .builds)

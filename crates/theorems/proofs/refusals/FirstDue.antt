@@ -14,7 +14,7 @@ use Rattle.base.proofs.Cases.{by-bool}
 use Rattle.base.proofs.Tested.{both, both-left, both-right}
 use Rattle.frame.specs.Refusals.{refused, notRefused}
 use Rattle.frame.specs.declared.refusals.Refusal.{Refusal}
-use Rattle.theorems.specs.Exactly.{Exactly, Condition, _when_, _unless_, choice, Due, NotOwn, Refuses}
+use Rattle.theorems.specs.Exactly.{Exactly, Condition, _when_, _unless_, choice, Due, NoneHolds, NotOwn, Refuses}
 
 -- ---- tests, and what they tell
 
@@ -95,6 +95,44 @@ not-due n (c ∷ cs) o d =
     other-due (eqb (c .number) n) (c .holds) (c .fails × Due cs n)
     (λ e. o .0 (ap refused (sym (eqb-true (c .number) n e)))) d in
     not-due n cs (o .1) (later .1)
+
+-- no number is 0, which is computed for a list that is written out
+abbrev pub without-0 : List Condition → Bool
+without-0 [] = true
+without-0 (c ∷ cs) = both (not (eqb (c .number) 0)) (without-0 cs)
+
+-- so 0 is due exactly where none of the conditions holds
+later-0 : (b : Bool) (P Q : Type 0) → T (not b) → Exactly (choice b P Q) Q
+later-0 true P Q t = absurd t
+later-0 false P Q t = record { there = λ q. q; back = λ q. q }
+
+pub none-due : (cs : List Condition) → T (without-0 cs) → Exactly (Due cs 0) (NoneHolds cs)
+none-due [] t = record { there = λ d. tt; back = λ u. refl }
+none-due (c ∷ []) t =
+    let more = later-0 (eqb (c .number) 0) (c .holds) (c .fails × Due [] 0) (both-left (not (eqb (c .number) 0)) true t) in
+    record { there = λ d. more .there d .0; back = λ f. more .back (f, refl) }
+none-due (c ∷ (d ∷ cs)) t =
+    let a = not (eqb (c .number) 0) in
+    let more = later-0 (eqb (c .number) 0) (c .holds) (c .fails × Due (d ∷ cs) 0) (both-left a (without-0 (d ∷ cs)) t) in
+    let rest = none-due (d ∷ cs) (both-right a (without-0 (d ∷ cs)) t) in
+    record {
+      there = λ e. let h = more .there e in (h .0, rest .there (h .1));
+      back = λ h. more .back (h .0, rest .back (h .1));
+    }
+
+-- and that may be said in its place, alone or beside another fact
+pub by-none : (cs : List Condition) → T (without-0 cs) → {A : Type 0} → Exactly A (Due cs 0) → Exactly A (NoneHolds cs)
+by-none cs t x =
+    let none = none-due cs t in
+    record { there = λ a. none .there (x .there a); back = λ h. x .back (none .back h) }
+
+pub with-none : (cs : List Condition) → T (without-0 cs) → {A B : Type 0} → Exactly A (B × Due cs 0) → Exactly A (B × NoneHolds cs)
+with-none cs t x =
+    let none = none-due cs t in
+    record {
+      there = λ a. let h = x .there a in (h .0, none .there (h .1));
+      back = λ h. x .back (h .0, none .back (h .1));
+    }
 
 -- ---- the law
 

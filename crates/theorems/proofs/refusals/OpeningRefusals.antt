@@ -42,7 +42,7 @@ use Rattle.frame_opening.specs.declared.payload.Opening.the-variants.{Opened, R
 use Rattle.theorems.specs.Exactly.{Exactly, Condition}
 use Rattle.theorems.specs.ByReading.{Needs, join-request, join-accept, data-frame, Is, ByReading, AfterReading}
 use Rattle.theorems.specs.OpeningConditions.{RightDataMic, RightJoinMic, Tests, KeyMissing, absent, zero, other, plainConditions, checkedConditions, checkedAcceptConditions, openingOf}
-use Rattle.theorems.proofs.refusals.FirstDue.{apart, if-when, if-unless, if-not, Gives, no-more, passed, says-told, through}
+use Rattle.theorems.proofs.refusals.FirstDue.{apart, if-when, if-unless, if-not, with-none, Gives, no-more, passed, nothing-left, says-told, through}
 use Rattle.theorems.proofs.refusals.ReadFirst.{on, on-through, either-way, needed, handed-on, after-reading, refusal-after}
 
 -- ---- what the tests tell
@@ -182,11 +182,14 @@ pub checked-accept : (key f : List ℕ)
 unfolding acceptOpenedChecked
 checked-accept key f = opens-after join-accept f (acceptTested key f) (λ h. accept-gives key f)
 
--- ---- the numbers 5 and 6 of them, written out
+-- ---- the numbers 5 and 6 of them and what is opened, written out
 
-pub data-6 : (nwk app : MaybeKey) (counter : ℕ) (f : List ℕ)
-    → Exactly (dataOpened nwk app counter f .answer ≡ Refused (refused 6)) (IsData f × KeyMissing (portOf f) nwk app)
-data-6 nwk app counter f = data-opening nwk app counter f .own 6 tt
+module _ (nwk app : MaybeKey) (counter : ℕ) (f : List ℕ) where
+  pub data-6 : Exactly (dataOpened nwk app counter f .answer ≡ Refused (refused 6)) (IsData f × KeyMissing (portOf f) nwk app)
+  data-6 = data-opening nwk app counter f .own 6 tt
+
+  pub data-opened : Exactly (dataOpened nwk app counter f .answer ≡ Opened) (IsData f × (KeyMissing (portOf f) nwk app → ⊥))
+  data-opened = with-none (plainConditions nwk app f) tt (data-opening nwk app counter f .own 0 tt)
 
 module _ (nwk : List ℕ) (app : MaybeKey) (counter : ℕ) (f : List ℕ) where
   pub checked-5 : Exactly (dataOpenedChecked nwk app counter f .answer ≡ Refused (refused 5)) (IsData f × (RightDataMic nwk counter f → ⊥))
@@ -196,10 +199,18 @@ module _ (nwk : List ℕ) (app : MaybeKey) (counter : ℕ) (f : List ℕ) where
       (IsData f × (RightDataMic nwk counter f × KeyMissing (portOf f) (givenKey nwk) app))
   checked-6 = checked-opening nwk app counter f .own 6 tt
 
-pub accept-5 : (key f : List ℕ)
-    → Exactly (acceptOpenedChecked key f .answer ≡ Refused (refused 5))
-    (IsJoinAccept f (length f) × (RightJoinMic key (acceptDecrypted key f) → ⊥))
-accept-5 key f = checked-accept key f .own 5 tt
+  pub checked-opened : Exactly (dataOpenedChecked nwk app counter f .answer ≡ Opened)
+      (IsData f × (RightDataMic nwk counter f × (KeyMissing (portOf f) (givenKey nwk) app → ⊥)))
+  checked-opened = with-none (checkedConditions nwk app counter f) tt (checked-opening nwk app counter f .own 0 tt)
+
+module _ (key f : List ℕ) where
+  pub accept-5 : Exactly (acceptOpenedChecked key f .answer ≡ Refused (refused 5))
+      (IsJoinAccept f (length f) × (RightJoinMic key (acceptDecrypted key f) → ⊥))
+  accept-5 = checked-accept key f .own 5 tt
+
+  pub accept-opened : Exactly (acceptOpenedChecked key f .answer ≡ Opened)
+      (IsJoinAccept f (length f) × RightJoinMic key (acceptDecrypted key f))
+  accept-opened = with-none (checkedAcceptConditions key f) tt (checked-accept key f .own 0 tt)
 
 -- ---- MIC tests
 
@@ -285,22 +296,30 @@ data-test key counter f = tests data-frame f (micOf f) (dataMic key (covered f) 
 
 -- the refusal beside values that are given of a frame of the right type
 values-after : (k : Needs) (f : List ℕ) → AfterReading (λ r. r) refused k f [] (on k notRefused (λ r. r) (readOf f))
-values-after k f = refusal-after k f (λ i. no-more refused (λ r. r) (λ n. refl))
+values-after k f = refusal-after k f (λ i. nothing-left)
 
-pub session-keys : (key devNonce f : List ℕ) → AfterReading (λ r. r) refused join-accept f [] (sessionKeys key devNonce f .refusal)
+-- the refusal in each of these answers
+pub session-refusal : (key devNonce f : List ℕ) → sessionKeys key devNonce f .refusal ≡ on join-accept notRefused (λ r. r) (readOf f)
 unfolding sessionKeys derivedKeys noKeys
-session-keys key devNonce f =
-    rw (on-through (λ (s : SessionKeys). s .refusal) join-accept f (derivedKeys key devNonce f) noKeys (λ r. r) (λ r n. refl))
-    (values-after join-accept f)
+session-refusal key devNonce f =
+    on-through (λ (s : SessionKeys). s .refusal) join-accept f (derivedKeys key devNonce f) noKeys (λ r. r) (λ r n. refl)
+
+pub request-refusal : (f : List ℕ) → joinRequestFields f .refusal ≡ on join-request notRefused (λ r. r) (readOf f)
+unfolding requestFields noRequest
+request-refusal f =
+    on-through (λ (s : JoinRequestFields). s .refusal) join-request f (requestFields f) noRequest (λ r. r) (λ r n. refl)
+
+pub accept-refusal : (f : List ℕ) → joinAcceptFields f .refusal ≡ on join-accept notRefused (λ r. r) (readOf f)
+unfolding acceptFields noAccept
+accept-refusal f =
+    on-through (λ (s : JoinAcceptFields). s .refusal) join-accept f (acceptFields f) noAccept (λ r. r) (λ r n. refl)
+
+-- and what it goes by
+pub session-keys : (key devNonce f : List ℕ) → AfterReading (λ r. r) refused join-accept f [] (sessionKeys key devNonce f .refusal)
+session-keys key devNonce f = rw (session-refusal key devNonce f) (values-after join-accept f)
 
 pub request-fields : (f : List ℕ) → AfterReading (λ r. r) refused join-request f [] (joinRequestFields f .refusal)
-unfolding requestFields noRequest
-request-fields f =
-    rw (on-through (λ (s : JoinRequestFields). s .refusal) join-request f (requestFields f) noRequest (λ r. r) (λ r n. refl))
-    (values-after join-request f)
+request-fields f = rw (request-refusal f) (values-after join-request f)
 
 pub accept-fields : (f : List ℕ) → AfterReading (λ r. r) refused join-accept f [] (joinAcceptFields f .refusal)
-unfolding acceptFields noAccept
-accept-fields f =
-    rw (on-through (λ (s : JoinAcceptFields). s .refusal) join-accept f (acceptFields f) noAccept (λ r. r) (λ r n. refl))
-    (values-after join-accept f)
+accept-fields f = rw (accept-refusal f) (values-after join-accept f)

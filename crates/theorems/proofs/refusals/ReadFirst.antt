@@ -42,9 +42,11 @@ module _ (f : List ℕ) where
   reads-as join-accept h = reads-accept f (length f) h
   reads-as data-frame h = reads-data f h
 
+  -- a join-accept has the length that it has
   own-length : (n : ℕ) → IsJoinAccept f n → IsJoinAccept f (length f)
   own-length n h = record { version = h .version; type = h .type; long = refl; either = rw (h .long) (h .either) }
 
+  -- an accepted frame of another type gives 4
   another : (k : Needs) (r : Reading) → Says f r → numberOf r ≡ 0 → (Is k f → ⊥) → (s : Refusal) × ByReading k f s
   another k r s z n = (refused 4, other (passes f r s z) n refl)
 
@@ -66,7 +68,7 @@ module _ (f : List ℕ) where
   pub either-way : (k : Needs) → Is k f ⊎ ((s : Refusal) × ByReading k f s)
   either-way k = sorted k (readOf f) refl (answers f)
 
-  -- the number is one of reading's
+  -- the number that reading gives is one of its own
   of-reading : (n : ℕ) → Gives f n → T (ofReading n)
   of-reading n (of12 e g) = rw e tt
   of-reading n (of1 e g) = rw e tt
@@ -81,17 +83,20 @@ module _ (f : List ℕ) where
 -- ---- what the call gives
 
 module _ {A : Type 0} (x : A) (e : Refusal → A) (f : List ℕ) where
+  -- of a frame that is needed, x
   pub needed : (k : Needs) → Is k f → on k x e (readOf f) ≡ x
   unfolding readAs
   needed join-request h = ap (on join-request x e) (reads-as f join-request h)
   needed join-accept h = ap (on join-accept x e) (reads-as f join-accept h)
   needed data-frame h = ap (on data-frame x e) (reads-as f data-frame h)
 
+  -- of a refused reading, its own refusal
   keeps-refusal : (k : Needs) (r : Refusal) → on k x e (Refused r) ≡ e r
   keeps-refusal join-request r = refl
   keeps-refusal join-accept r = refl
   keeps-refusal data-frame r = refl
 
+  -- of a frame of another type, 4
   other-gives : (k : Needs) (r : Reading) → Says f r → Passes f → (Is k f → ⊥) → on k x e r ≡ e (refused 4)
   other-gives join-request JoinRequest s p n = absurd (n s)
   other-gives join-request (JoinAccept m) s p n = refl
@@ -106,11 +111,12 @@ module _ {A : Type 0} (x : A) (e : Refusal → A) (f : List ℕ) where
   other-gives data-frame (Data d) s p n = absurd (n (s .0))
   other-gives data-frame (Refused r) s p n = absurd (not-both f (r .number) (s .0) p)
 
+  -- so what reading gives is handed on
   pub handed-on : (k : Needs) (r : Refusal) → ByReading k f r → on k x e (readOf f) ≡ e r
   handed-on k r (keeps q) = ap (on k x e) q ∙ keeps-refusal k r
   handed-on k r (other p n q) = other-gives k (readOf f) (answers f) p n ∙ ap e (sym q)
 
--- a part of what the call gives
+-- a part h of what the call gives, where h finds the refusal
 pub on-through : {A B : Type 0} (h : A → B) (k : Needs) (f : List ℕ) (x : A) (e : Refusal → A) (e′ : Refusal → B)
     → ((r : Refusal) → (r .number ≡ 0 → ⊥) → h (e r) ≡ e′ r) → h (on k x e (readOf f)) ≡ on k (h x) e′ (readOf f)
 on-through h k f x e e′ found =

@@ -1,0 +1,26 @@
+-- The two uses of a number that the functions for C add (docs/RULES.md, Refusals, From C), and the number in an answer to C.
+-- Assumes nothing.
+use mathlib.Core.List.{List, [], _∷_}
+use Prim.Native.Nat.{ℕ, _%_, _≤_, _<_}
+use Rattle.frame.specs.Refusals.{refusal}
+use Rattle.frame.specs.declared.refusals.Refusal.{Refusal}
+use Rattle.frame_build.specs.declared.creator.data_frame.DataParts.{DataParts}
+use Rattle.frame_c.specs.CAnswers.{orShort}
+use Rattle.theorems.specs.Exactly.{Condition, _when_, _unless_}
+use Rattle.theorems.specs.BuildingConditions.{dataConditions}
+
+-- 3, ahead of every other test of building a data frame: its type is 2 to 5
+abbrev pub kindConditions : ℕ → DataParts → List ℕ → List ℕ → ℕ → List Condition
+kindConditions kind d commands body room = 3 unless ((2 ≤ kind) × (kind ≤ 5)) ∷ dataConditions d commands body room
+
+-- 7, after the reader's own refusals: there is room for fewer than so many bytes
+abbrev pub roomConditions : ℕ → ℕ → List Condition
+roomConditions count room = 7 when (room < count) ∷ []
+
+-- the refusal of a call that stores so many bytes, beside which the proved call gives r
+abbrev pub storedRefusal : Refusal → ℕ → ℕ → Refusal
+storedRefusal r count room = refusal (orShort (r .number) count room) (r .place)
+
+-- the number in an answer to C: its low byte
+abbrev pub numberInC : ℕ → ℕ
+numberInC answer = answer % 256
