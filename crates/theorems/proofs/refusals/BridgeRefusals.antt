@@ -1,22 +1,19 @@
--- The two numbers that the functions for C add are given exactly where they are to (docs/RULES.md, Refusals, From C), and the low
--- byte of every answer to C is the number that the proved call gives.
+-- The numbers that the functions for C add are given exactly where they are to (docs/RULES.md, Refusals, From C), and the low byte
+-- of every answer to C is the number that the proved call gives.
 -- Assumes nothing.
 use mathlib.Core.Path.{_≡_, refl, ap}
 use mathlib.Core.Bool.{Bool}
 use mathlib.Core.List.{List}
-use mathlib.Core.Logic.{_⊎_, inl, inr}
-use Prim.Native.Nat.{ℕ, _≤_, _<_}
+use Prim.Native.Nat.{ℕ, _<_}
 use native.Mathlib.Omega.{arith}
 use lib.Dec.{ltb}
 use lib.ListN.{length}
-use borrow.Author.Tests.{lt-ltb, le-ltb, ne-eqb}
+use borrow.Author.Tests.{ne-eqb}
 use Rattle.base.specs.Bytes.{pick}
-use Rattle.base.proofs.Cases.{by-order}
 use Rattle.frame.specs.JoinFields.{joinRequestFields, joinAcceptFields}
 use Rattle.frame.specs.Reading.{readOf}
 use Rattle.frame.specs.Refusals.{refusal, refused, notRefused}
 use Rattle.frame.specs.declared.refusals.Refusal.{Refusal}
-use Rattle.frame_build.specs.DataBuilding.{dataRefusal}
 use Rattle.frame_build.specs.DataFrames.{dataFrame, builtOf}
 use Rattle.frame_build.specs.declared.creator.data_frame.DataParts.{DataParts}
 use Rattle.frame_opening.specs.SessionKeys.{sessionKeys}
@@ -27,40 +24,20 @@ use Rattle.theorems.specs.ByReading.{Needs, join-request, join-accept, A
 use Rattle.theorems.specs.BuildingConditions.{Answers}
 use Rattle.theorems.specs.BridgeConditions.{kindConditions, roomConditions, storedRefusal, numberInC}
 use Rattle.theorems.proofs.refusals.BuildingRefusals.{data-gives, answers}
-use Rattle.theorems.proofs.refusals.FirstDue.{if-when, if-below, Gives, plain, first, tested, through, nothing-left}
+use Rattle.theorems.proofs.refusals.FirstDue.{if-when, if-below, Gives, plain, or-else, tested, through, nothing-left}
 use Rattle.theorems.proofs.refusals.OpeningRefusals.{session-refusal, request-refusal, accept-refusal}
 use Rattle.theorems.proofs.refusals.ReadFirst.{on, on-through, refusal-after}
 
 -- ---- building a data frame
 
 module _ (kind : ℕ) (d : DataParts) (commands body : List ℕ) (room : ℕ) where
-  -- its type is one of data, or it is not
-  abbrev a-data-type : Type 0
-  a-data-type = (2 ≤ kind) × (kind ≤ 5)
-
-  -- where it is not, 3 comes first
-  other-kind : (a-data-type → ⊥) → dataRefused kind d commands body room ≡ 3
-  unfolding dataRefused
-  other-kind n =
-      by-order 2 kind
-      (λ l.
-      by-order kind 5 (λ m. absurd (n (l, m)))
-      (λ m. simp (le-ltb kind 2 l, lt-ltb 5 kind m)))
-      (λ l. simp (lt-ltb kind 2 l))
-
-  -- where it is, building goes on
-  data-kind : a-data-type → dataRefused kind d commands body room ≡ dataRefusal d commands body room
-  unfolding dataRefused
-  data-kind h = simp (le-ltb kind 2 (h .0), le-ltb 5 kind (h .1))
-
-  one-or-other : (a-data-type → ⊥) ⊎ a-data-type
-  one-or-other =
-      by-order 2 kind (λ l. by-order kind 5 (λ m. inr (l, m)) (λ m. inl (λ h. omega arith))) (λ l. inl (λ h. omega arith))
-
   kind-gives : Gives plain (kindConditions kind d commands body room) (dataRefused kind d commands body room)
-  kind-gives = first plain refused (λ n. refl) tt one-or-other other-kind data-kind (data-gives d commands body room)
+  unfolding dataRefused
+  kind-gives =
+      or-else tt (if-when (ltb kind 2) (if-below kind 2))
+      (or-else tt (if-when (ltb 5 kind) (if-below 5 kind)) (data-gives d commands body room))
 
-  -- 3, and then as building
+  -- 4, 3, and then as building
   pub kind-refusals : (n : ℕ) → Exactly (dataRefused kind d commands body room ≡ n) (Due (kindConditions kind d commands body room) n)
   kind-refusals = kind-gives .exactly
 
