@@ -9,6 +9,7 @@ ghost use Rattle.frame_opening.specs.JoinAcceptOpening.{acceptOpened};
 ghost use Rattle.frame_opening.specs.SessionKeys.{keyBlock, derivedKeys, noKeys, sessionKeys};
 use crate::payload::Opening;
 use crate::payload::no_opening;
+use base::storing::put;
 use base::storing::three_at;
 use frame::numbers::other_refusal;
 use frame::packet_length::APP_NONCE_AT;
@@ -49,24 +50,12 @@ pub fn decrypt_join_accept(frame: &mut [u8], app_key: [u8; 16]) -> Opening
 fn key_block(first: u8, app_nonce: [u8; 3], net_id: [u8; 3], dev_nonce: [u8; 2]) -> [u8; 16]
     ensures { λ r. ⌜ r ≡ keyBlock first «app_nonce» «net_id» «dev_nonce» ⌝ }
 {
-    [
-        first,
-        app_nonce[0],
-        app_nonce[1],
-        app_nonce[2],
-        net_id[0],
-        net_id[1],
-        net_id[2],
-        dev_nonce[0],
-        dev_nonce[1],
-        0,
-        0,
-        0,
-        0,
-        0,
-        0,
-        0,
-    ]
+    let mut block = [0u8; 16];
+    block[0] = first;
+    put(&mut block, 1, &app_nonce);
+    put(&mut block, 4, &net_id);
+    put(&mut block, 7, &dev_nonce);
+    block
 }
 
 fn derive_keys(frame: &[u8], dev_nonce: [u8; 2], app_key: [u8; 16]) -> SessionKeys
