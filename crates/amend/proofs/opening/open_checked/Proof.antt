@@ -49,7 +49,8 @@ returns c =
 returns-2 : tie.Need-returns-2
 returns-2 c =
     let failed = c .before in
-    let args = failed .before .before .before .before .before .before .before .before .before .before .args in
+    let signed = failed .before .before .before in
+    let args = signed .before .before .before .before .before .before .before .args in
     c .not-opened .ensures
     ∙ checked-refuses (args .frame .now) (args .nwk-skey) (args .app-skey) (args .counter) (tested (failed .before))
     (failed .if1 .left)
