@@ -6,4 +6,5 @@ pub mod Exactly
 pub mod OpeningConditions
 pub mod PrintedFips197
 pub mod PrintedRfc4493
+pub mod ReadBack
 pub mod WrongVersions

@@ -2,7 +2,7 @@
 -- is a frame of n bytes, the first n bytes of the output are read, tested, opened and taken apart as what went in. That the
 -- building was accepted is the one premise; what the types of the arguments give is part of the contract.
 -- Assumes nothing.
-use mathlib.Core.Path.{_≡_, refl, sym, ap, _∙_, subst}
+use mathlib.Core.Path.{_≡_, sym, ap, _∙_, subst}
 use mathlib.Core.Bool.{Bool, true, false}
 use mathlib.Core.List.{List, _++_}
 use Prim.Native.Nat.{ℕ}
@@ -15,23 +15,17 @@ use borrow.Author.Tests.{eqb-true}
 use Rattle.base.specs.Bytes.{pick}
 use Rattle.base.proofs.Cases.{by-bool}
 use Rattle.frame.specs.Refusals.{refused}
-use Rattle.frame_build.specs.DataFrames.{Builds, builtOf, builtValue, outOf}
+use Rattle.frame_build.specs.DataFrames.{Builds, builtValue}
 use Rattle.frame_build.specs.declared.creator.Built.{Built}
 use Rattle.frame_build.specs.declared.creator.Built.the-variants.{Frame, Refused}
-use Rattle.frame_build.specs.declared.creator.data_frame.DataParts.{DataParts}
 use Rattle.frame_build.proofs.creator.data_frame.build_data.Reads as build-data
 use Rattle.frame_build.proofs.creator.join.build_join_request.Reads as build-join-request
 use Rattle.frame_build.proofs.creator.join.build_join_accept.Reads as build-join-accept
-use Rattle.theorems.proofs.read_back.DataParts.{DataBack, data-back}
-use Rattle.theorems.proofs.read_back.DataOpens.{DataOpens, data-opens}
+use Rattle.theorems.specs.ReadBack.{Always, DataReadsBack, RequestReadsBack, AcceptReadsBack}
+use Rattle.theorems.proofs.read_back.DataParts.{data-back}
+use Rattle.theorems.proofs.read_back.DataOpens.{data-opens}
 use Rattle.theorems.proofs.read_back.JoinParts.{join-request-back, join-accept-back}
-use Rattle.theorems.proofs.read_back.JoinOpens.{RequestOpens, request-opens, AcceptOpens, accept-opens}
-
--- a claim holds of every outcome of a call: of its arguments, its answer and what it was lent as it returns
-abbrev pub Always : {K : Type 0} {D R S : K → Type 0} → ((κs : K) → D κs → R κs → S κs → Type 0)
-    → ((κs : K) → D κs → R κs → S κs → Type 0)
-    → Type 0
-Always {K} {D} {R} {S} post claim = (κs : K) (a : D κs) (r : R κs) (s : S κs) → post κs a r s → claim κs a r s
+use Rattle.theorems.proofs.read_back.JoinOpens.{request-opens, accept-opens}
 
 -- ---- an accepted building
 
@@ -57,14 +51,10 @@ built-frame refusal frame l e r b n q = by-bool (eqb refusal 0) taken not-taken
 
 -- ---- data frames: parts, commands, payload, network key, application key, output
 
-pub record DataAnswers (nwk app : List ℕ) (d : DataParts) (commands body f : List ℕ) : Type 0 where
-  pub back : DataBack nwk app d commands body f
-  pub opens : DataOpens nwk app d commands body f
-
 pub data-reads-back : Always build-data.Learnt
     (λ κs a r s.
     (n : ℕ) → r ≡ Frame n
-    → DataAnswers (a .1 .1 .1 .0) (a .1 .1 .1 .1 .0) (a .0) (now (a .1 .0)) (now (a .1 .1 .0))
+    → DataReadsBack (a .1 .1 .1 .0) (a .1 .1 .1 .1 .0) (a .0) (now (a .1 .0)) (now (a .1 .1 .0))
     (take n (now (s .1 .1 .1 .1 .1 .0))))
 data-reads-back κs a r s p n q =
     let d = a .0 in
@@ -74,26 +64,26 @@ data-reads-back κs a r s p n q =
     let app = a .1 .1 .1 .1 .0 in
     let b = built-frame _ _ _ _ r (p .0) n q in
     let back = data-back nwk app d (p .1) commands body _ (b .0) in
-    subst (λ (f : List ℕ). DataAnswers nwk app d commands body f) (sym (b .1))
+    subst (λ (f : List ℕ). DataReadsBack nwk app d commands body f) (sym (b .1))
     (record { back = back; opens = data-opens nwk app d commands body _ back })
 
 -- ---- join-requests: parts, AppKey, output
 
 pub join-request-reads-back : Always build-join-request.Learnt
-    (λ κs a r s. (n : ℕ) → r ≡ Frame n → RequestOpens (a .1 .0) (a .0) (take n (now (s .1 .1 .0))))
+    (λ κs a r s. (n : ℕ) → r ≡ Frame n → RequestReadsBack (a .1 .0) (a .0) (take n (now (s .1 .1 .0))))
 join-request-reads-back κs a r s p n q =
     let b = built-frame _ _ _ _ r (p .0) n q in
-    subst (λ (f : List ℕ). RequestOpens (a .1 .0) (a .0) f) (sym (b .1))
+    subst (λ (f : List ℕ). RequestReadsBack (a .1 .0) (a .0) f) (sym (b .1))
     (request-opens (a .1 .0) (a .0) _ (join-request-back (a .1 .0) (a .0) (p .1)))
 
 -- ---- join-accepts: parts, channels, AppKey, output
 
 pub join-accept-reads-back : Always build-join-accept.Learnt
     (λ κs a r s.
-    (n : ℕ) → r ≡ Frame n → AcceptOpens (a .1 .1 .0) (a .0) (now (a .1 .0)) (take n (now (s .1 .1 .1 .0))))
+    (n : ℕ) → r ≡ Frame n → AcceptReadsBack (a .1 .1 .0) (a .0) (now (a .1 .0)) (take n (now (s .1 .1 .1 .0))))
 join-accept-reads-back κs a r s p n q =
     let key = a .1 .1 .0 in
     let channels = now (a .1 .0) in
     let b = built-frame _ _ _ _ r (p .0) n q in
-    subst (λ (f : List ℕ). AcceptOpens key (a .0) channels f) (sym (b .1))
+    subst (λ (f : List ℕ). AcceptReadsBack key (a .0) channels f) (sym (b .1))
     (accept-opens key (a .0) channels _ (join-accept-back key (a .0) (p .1) channels _ (b .0)))

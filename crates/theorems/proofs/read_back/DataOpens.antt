@@ -15,29 +15,22 @@ use Rattle.frame.specs.Layout.{fcnt, fport, fhdrLength, header, payload, payloa
 use Rattle.frame.specs.Conditions.{IsData}
 use Rattle.frame.specs.Reading.{portOf, payloadOf}
 use Rattle.frame.specs.declared.parser.FPort.the-variants.{Absent, Port}
-use Rattle.frame.specs.declared.parser.FrmPayload.{FrmPayload}
 use Rattle.frame.specs.declared.parser.FrmPayload.the-variants.{Data as PlainData, MacCommands}
 use Rattle.frame.proofs.ReadingLaws.{data-read}
 use Rattle.frame.proofs.ReadingSteps.{port-there, port-absent, payload-commands, payload-data}
 use Rattle.frame.specs.ReadingNumbers.{onData}
 use Rattle.frame.specs.Refusals.{refused}
-use Rattle.frame_opening.specs.FrameOpening.{result, unopened, dataPasses, dataTest, openedUnder, dataOpened, givenKey}
+use Rattle.frame_opening.specs.FrameOpening.{result, unopened, dataPasses, openedUnder, dataOpened, givenKey}
 use Rattle.frame_opening.specs.CheckedOpening.{openedTested, dataOpenedChecked}
 use Rattle.frame_security.specs.Security.{crypted, frameKey, fullCounter, covered, dataMic}
 use Rattle.frame_security.proofs.MicCompared.{test-of-same}
-use Rattle.amend.specs.OpenFrame.{openedOf, acceptedOpening, openOf}
 use Rattle.amend.proofs.Accepted.{accepted-opens}
-use Rattle.frame_opening.specs.declared.mic_tests.MicTest.the-variants.{Passes}
 use Rattle.frame_opening.specs.declared.payload.Opening.the-variants.{Opened}
 use Rattle.theorems.proofs.refusals.OpeningRefusals.{data-test}
 use Rattle.theorems.proofs.read_back.OpenedParts.{opened-both}
 use Rattle.frame_build.specs.DataBuilding.{bodyOf, dataHeader}
 use Rattle.frame_build.specs.declared.creator.data_frame.DataParts.{DataParts}
-use Rattle.theorems.proofs.read_back.DataParts.{DataBack}
-
--- what a port says of the payload behind it
-abbrev pub heldBy : ℕ → ℕ → ℕ → FrmPayload
-heldBy port start end = pick (eqb port 0) (MacCommands start end) (PlainData start end)
+use Rattle.theorems.specs.ReadBack.{heldBy, DataBack, DataOpens}
 
 -- a port that is reported stands in its place, with a byte behind it
 port-byte : (f : List ℕ) (q : ℕ) → portOf f ≡ Port q → (fhdrLength f + 6 < length f) × (fport f ≡ q)
@@ -63,18 +56,6 @@ held-by f q e =
     payload-data f (p .0) (λ z. eqb-false q 0 t (sym (p .1) ∙ z))
     ∙ ap (λ (b : Bool). pick b (MacCommands (payloadStart f) (payloadEnd f)) (PlainData (payloadStart f) (payloadEnd f)))
     (sym t))
-
--- what the calls answer of a built frame f
-pub record DataOpens (nwk app : List ℕ) (d : DataParts) (commands body f : List ℕ) : Type 0 where
-  pub passes : dataTest nwk (d .fcnt) f ≡ Passes
-  pub opens : dataOpened (givenKey nwk) (givenKey app) (d .fcnt) f
-      ≡ result Opened (dataHeader d commands ++ (bodyOf (d .port) commands body ++ micOf f))
-  pub opens-checked : dataOpenedChecked nwk (givenKey app) (d .fcnt) f
-      ≡ result Opened (dataHeader d commands ++ (bodyOf (d .port) commands body ++ micOf f))
-  pub opens-to-amend : openOf f nwk app (d .fcnt) ≡ acceptedOpening (openedOf f nwk app (d .fcnt))
-  -- commands on port 0, data on another, where there is a byte
-  pub holds : (q : ℕ) → d .port ≡ Port q → 0 < length (bodyOf (d .port) commands body)
-      → payloadOf f ≡ heldBy q (payloadStart f) (payloadEnd f)
 
 module _ (nwk app : List ℕ) (d : DataParts) (commands body f : List ℕ) (b : DataBack nwk app d commands body f) where
   is-data : IsData f

@@ -26,6 +26,7 @@ use Rattle.frame.specs.declared.parser.FPort.the-variants.{Absent, Port}
 use Rattle.frame.specs.declared.parser.FrmPayload.the-variants.{Nothing, Data as PlainData}
 use Rattle.frame.specs.declared.parser.Reading.the-variants.{Data}
 use Rattle.frame_build.specs.declared.creator.data_frame.DataParts.{DataParts}
+use Rattle.theorems.specs.ReadBack.{DataBack}
 use Rattle.frame_build.proofs.DataRefusals.{Buildable, accepted}
 use Rattle.frame_build.proofs.DataHeader.{eight, header-eight, length-header}
 use Rattle.frame.proofs.ReadingLaws.{reads-data}
@@ -257,28 +258,7 @@ module _ (nwk app : List ℕ) (d : DataParts) (four : length (d .«dev_addr») �
       let same : length (bodyOf (d .port) commands body) ≡ length body = ap (λ (t : FPort). length (bodyOf t commands body)) e in
       payload-none f (omega (arith, f-long, h-long, fhdr))
 
--- ---- the theorem: what reading a built frame f gives
-
-pub record DataBack (nwk app : List ℕ) (d : DataParts) (commands body f : List ℕ) : Type 0 where
-  pub reads : readOf f ≡ Data (dataOf f)
-  pub type : mtype f ≡ pick (d .confirmed) 4 2 + pick (d .uplink) 0 1
-  pub address : devAddr f ≡ d .«dev_addr»
-  -- FCtrl by its high nibble, the counter by its low half
-  pub control : fctrl f / 16 ≡ d .fctrl / 16
-  pub count : fcnt f ≡ d .fcnt % 65536
-  -- FOpts lie from 8 on and end where reading says
-  pub fopts-end : 1 + fhdrLength f ≡ 8 + length (foptsOf (d .port) commands)
-  pub fopts : part 8 (length (foptsOf (d .port) commands)) f ≡ foptsOf (d .port) commands
-  -- the port, and the exception: with an empty payload none is reported, and the payload is data of no byte
-  pub port : (q : ℕ) → d .port ≡ Port q → 0 < length (bodyOf (d .port) commands body) → portOf f ≡ Port q
-  pub no-port : length (bodyOf (d .port) commands body) ≡ 0 → portOf f ≡ Absent
-  pub no-byte : (q : ℕ) → d .port ≡ Port q → length (bodyOf (d .port) commands body) ≡ 0
-      → payloadOf f ≡ PlainData (payloadStart f) (payloadStart f)
-  pub no-payload : d .port ≡ Absent → payloadOf f ≡ Nothing
-  -- header, clear payload or commands, MIC
-  pub header-back : header f ≡ dataHeader d commands
-  pub payload-back : crypted (frameKey f nwk app) (header f) (d .fcnt) (payload f) ≡ bodyOf (d .port) commands body
-  pub mic-back : micOf f ≡ dataMic nwk (take (length f - 4) f) (d .fcnt)
+-- ---- the theorem
 
 pub data-back : (nwk app : List ℕ) (d : DataParts) → DataGiven d → (commands body : List ℕ) (room : ℕ)
     → dataRefusal d commands body room ≡ 0 → DataBack nwk app d commands body (dataFrame nwk app d commands body)

@@ -1,20 +1,20 @@
 -- What was built passes its MIC test and opens: a join-request passes and gives its fields; a join-accept opens, checked, to bytes
 -- that are read as a join-accept, pass and give its fields. What `JoinParts` shows of the parts, said of what the calls answer.
 -- Assumes nothing.
-use mathlib.Core.Path.{_≡_, refl, sym, ap, subst, _∙_}
+use mathlib.Core.Path.{_≡_, sym, ap, subst, _∙_}
 use mathlib.Core.Bool.{Bool}
 use mathlib.Core.List.{List}
 use Prim.Native.Nat.{ℕ}
 use Rattle.base.specs.Bytes.{pick}
 use Rattle.frame.specs.Conditions.{IsJoinAccept}
-use Rattle.frame.specs.JoinFields.{requestFields, noRequest, joinRequestFields, acceptFields, noAccept, joinAcceptFields}
+use Rattle.frame.specs.JoinFields.{requestFields, noRequest, acceptFields, noAccept, joinAcceptFields}
 use Rattle.frame.specs.Layout.{micOf}
 use Rattle.frame.specs.Reading.{readOf}
 use Rattle.frame.specs.ReadingNumbers.{onRequest, onAccept}
 use Rattle.frame.specs.Refusals.{refused}
-use Rattle.frame.specs.declared.parser.Reading.the-variants.{JoinRequest, JoinAccept}
+use Rattle.frame.specs.declared.parser.Reading.the-variants.{JoinAccept}
 use Rattle.frame.proofs.ReadingLaws.{request-read, accept-read}
-use Rattle.frame_opening.specs.FrameOpening.{Result, result, unopened, joinPasses, joinRequestTest, joinAcceptTest}
+use Rattle.frame_opening.specs.FrameOpening.{Result, result, unopened, joinPasses, joinAcceptTest}
 use Rattle.frame_opening.specs.CheckedOpening.{acceptTested, acceptOpenedChecked}
 use Rattle.frame_security.specs.JoinAcceptCipher.{acceptDecrypted}
 use Rattle.frame_security.specs.Security.{covered, joinMic}
@@ -22,35 +22,20 @@ use Rattle.frame_opening.specs.declared.mic_tests.MicTest.the-variants.{Passes}
 use Rattle.frame_opening.specs.declared.payload.Opening.the-variants.{Opened}
 use Rattle.theorems.proofs.refusals.OpeningRefusals.{request-test, accept-test}
 use Rattle.frame_security.proofs.MicCompared.{test-of-same}
-use Rattle.frame_build.specs.JoinBuilding.{joinAcceptBody, joinAcceptLength, joinRequestBody}
-use Rattle.frame_build.specs.JoinFrames.{signed}
+use Rattle.frame_build.specs.JoinBuilding.{joinAcceptLength}
 use Rattle.frame_build.specs.declared.creator.join.JoinAcceptParts.{JoinAcceptParts}
 use Rattle.frame_build.specs.declared.creator.join.JoinRequestParts.{JoinRequestParts}
-use Rattle.theorems.proofs.read_back.JoinParts.{RequestBack, requestRecord, AcceptBack, builtFields}
-
--- what the calls answer of a built join-request f
-pub record RequestOpens (key : List ℕ) (j : JoinRequestParts) (f : List ℕ) : Type 0 where
-  pub reads : readOf f ≡ JoinRequest
-  pub passes : joinRequestTest key f ≡ Passes
-  pub fields : joinRequestFields f
-      ≡ requestRecord (j .«app_eui») (j .«dev_eui») (j .«dev_nonce») (joinMic key (joinRequestBody j))
+use Rattle.theorems.specs.ReadBack.{RequestReadsBack, builtFields, AcceptReadsBack}
+use Rattle.theorems.proofs.read_back.JoinParts.{RequestBack, AcceptBack}
 
 -- of what `join-request-back` gives
-pub request-opens : (key : List ℕ) (j : JoinRequestParts) (f : List ℕ) → RequestBack key j f → RequestOpens key j f
+pub request-opens : (key : List ℕ) (j : JoinRequestParts) (f : List ℕ) → RequestBack key j f → RequestReadsBack key j f
 request-opens key j f b =
     record {
       reads = b .reads;
       passes = request-test key f .passes .back (request-read f (b .reads), b .mic);
       fields = ap (onRequest (requestFields f) noRequest) (b .reads) ∙ b .fields;
     }
-
--- what the calls answer of a built join-accept f: it opens, checked, and leaves g
-pub record AcceptOpens (key : List ℕ) (j : JoinAcceptParts) (channels f : List ℕ) : Type 0 where
-  pub reads : readOf f ≡ JoinAccept (joinAcceptLength j)
-  pub opens : acceptOpenedChecked key f ≡ result Opened (signed key (joinAcceptBody j channels))
-  pub clear-reads : readOf (acceptOpenedChecked key f .bytes) ≡ JoinAccept (joinAcceptLength j)
-  pub passes : joinAcceptTest key (acceptOpenedChecked key f .bytes) ≡ Passes
-  pub fields : joinAcceptFields (acceptOpenedChecked key f .bytes) ≡ builtFields j channels
 
 module _ (key : List ℕ) (j : JoinAcceptParts) (channels f : List ℕ) (b : AcceptBack key j channels f (acceptDecrypted key f)) where
   abbrev g : List ℕ
@@ -76,7 +61,7 @@ module _ (key : List ℕ) (j : JoinAcceptParts) (channels f : List ℕ) (b : Acc
       accept-test key g .passes .back (subst (λ (n : ℕ). IsJoinAccept g n) (sym (read .long)) read, b .mic)
 
   -- of what `join-accept-back` gives
-  pub accept-opens : AcceptOpens key j channels f
+  pub accept-opens : AcceptReadsBack key j channels f
   accept-opens =
       record {
         reads = b .reads;

@@ -6,7 +6,7 @@ use mathlib.Core.Path.{_≡_, refl, sym, ap, ap₂, _∙_}
 use mathlib.Core.Bool.{Bool, true, false}
 use mathlib.Core.List.{List, [], _∷_, _++_, append-assoc}
 use mathlib.Core.Logic.{_⊎_, inl, inr}
-use Prim.Native.Nat.{ℕ, zero, suc, _+_, _-_, _*_, _/_, _%_, _≤_, _<_}
+use Prim.Native.Nat.{ℕ, zero, suc, _+_, _-_, _*_, _/_, _%_, _≤_}
 use native.Mathlib.Omega.{arith}
 use lib.Dec.{ltb}
 use lib.ListN.{length, take, length-append}
@@ -28,10 +28,10 @@ use Rattle.frame_security.specs.Security.{joinMic}
 use Rattle.frame.specs.declared.join_fields.CfList.{CfList}
 use Rattle.frame.specs.declared.join_fields.CfList.the-variants.{Absent, Frequencies}
 use Rattle.frame.specs.declared.join_fields.JoinAcceptFields.{JoinAcceptFields}
-use Rattle.frame.specs.declared.join_fields.JoinRequestFields.{JoinRequestFields}
 use Rattle.frame.specs.declared.parser.Reading.the-variants.{JoinRequest, JoinAccept}
 use Rattle.frame_build.specs.declared.creator.join.JoinAcceptParts.{JoinAcceptParts}
 use Rattle.frame_build.specs.declared.creator.join.JoinRequestParts.{JoinRequestParts}
+use Rattle.theorems.specs.ReadBack.{requestRecord, acceptRecord, listedFields, builtFields}
 use Rattle.frame_security.proofs.AcceptBlocks.{accept-long, accept-first, accept-undone}
 use Rattle.frame_build.proofs.JoinBuiltLaws.{signed-long}
 use Rattle.frame_build.proofs.JoinBodies.{request-written, length-request, head-written, body-and-mic, accept-byte, accept-low}
@@ -48,16 +48,6 @@ signed-mic key msg =
     ∙ ap (joinMic key) (sym (take-at msg (joinMic key msg) (length (msg ++ joinMic key msg) - 4) e))
 
 -- ---- join-request
-
-abbrev pub requestRecord : List ℕ → List ℕ → List ℕ → List ℕ → JoinRequestFields
-requestRecord a d n m =
-    record {
-      refusal = notRefused;
-      «app_eui» = a;
-      «dev_eui» = d;
-      «dev_nonce» = n;
-      mic = m;
-    }
 
 module _ (key : List ℕ) (j : JoinRequestParts) (ha : length (j .«app_eui») ≡ 8) (hd : length (j .«dev_eui») ≡ 8) (hn : length (j .«dev_nonce») ≡ 2) where
   m : List ℕ
@@ -108,28 +98,6 @@ fits (c ∷ cs) e (suc i) = fits cs (rest (ltb 16777215 c) e) i
     rest : (b : Bool) → pick b true (tooHigh cs) ≡ false → tooHigh cs ≡ false
     rest true r = let z : _≡_ {A = ℕ} 0 1 = cc in absurd (omega arith)
     rest false r = r
-
--- the fields, where there is a list and where there is none
-abbrev pub acceptRecord : JoinAcceptParts → CfList → List ℕ → JoinAcceptFields
-acceptRecord j l fs =
-    record {
-      refusal = notRefused;
-      «app_nonce» = j .«app_nonce»;
-      «net_id» = j .«net_id»;
-      «dev_addr» = j .«dev_addr»;
-      «dl_settings» = j .«dl_settings»;
-      «rx_delay» = j .«rx_delay» % 16;
-      «cf_list» = l;
-      frequencies = fs;
-      masks = zeros 9;
-    }
-
--- what went in, as the field call gives it: RxDelay modulo 16; a list filled up with zeros to five, or none
-abbrev listedFields : JoinAcceptParts → List ℕ → Bool → JoinAcceptFields
-listedFields j channels list = acceptRecord j (pick list Frequencies Absent) (pick list (tab 5 (at channels)) (zeros 5))
-
-abbrev pub builtFields : JoinAcceptParts → List ℕ → JoinAcceptFields
-builtFields j channels = listedFields j channels (j .«with_c_f_list»)
 
 module _ (key : List ℕ) (j : JoinAcceptParts) (hn : length (j .«app_nonce») ≡ 3) (hi : length (j .«net_id») ≡ 3) (ha : length (j .«dev_addr») ≡ 4) (channels : List ℕ) where
   body : List ℕ
