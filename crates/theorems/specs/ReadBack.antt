@@ -98,13 +98,13 @@ pub record RequestReadsBack (key : List ℕ) (j : JoinRequestParts) (f : List �
 
 -- ---- a join-accept f: it opens, checked, and what that leaves is read as one, passes and gives what went in
 
-abbrev pub acceptRecord : JoinAcceptParts → CfList → List ℕ → JoinAcceptFields
-acceptRecord j l fs =
+abbrev pub acceptRecord : JoinAcceptParts → List ℕ → List ℕ → List ℕ → CfList → List ℕ → JoinAcceptFields
+acceptRecord j nonce net address l fs =
     record {
       refusal = notRefused;
-      «app_nonce» = j .«app_nonce»;
-      «net_id» = j .«net_id»;
-      «dev_addr» = j .«dev_addr»;
+      «app_nonce» = nonce;
+      «net_id» = net;
+      «dev_addr» = address;
       «dl_settings» = j .«dl_settings»;
       «rx_delay» = j .«rx_delay» % 16;
       «cf_list» = l;
@@ -114,7 +114,9 @@ acceptRecord j l fs =
 
 -- with a list its channels, filled up with zeros to five; without one none
 abbrev pub listedFields : JoinAcceptParts → List ℕ → Bool → JoinAcceptFields
-listedFields j channels list = acceptRecord j (pick list Frequencies NoList) (pick list (tab 5 (at channels)) (zeros 5))
+listedFields j channels list =
+    acceptRecord j (j .«app_nonce») (j .«net_id») (j .«dev_addr») (pick list Frequencies NoList)
+    (pick list (tab 5 (at channels)) (zeros 5))
 
 abbrev pub builtFields : JoinAcceptParts → List ℕ → JoinAcceptFields
 builtFields j channels = listedFields j channels (j .«with_c_f_list»)

@@ -12,7 +12,6 @@ use lib.Dec.{ltb}
 use lib.ListN.{length, take, length-append}
 use lib.Seq.{take-at, drop-at, take-all}
 use Rattle.base.specs.Bytes.{pick, at, tab, AreBytes, zeros}
-use Rattle.frame.specs.Refusals.{notRefused}
 use borrow.Author.Tests.{ltb-false}
 use Rattle.base.proofs.Cases.{by-bool}
 use Rattle.base.proofs.Parts.{bytes-append}
@@ -27,7 +26,6 @@ use Rattle.frame_security.specs.JoinAcceptCipher.{acceptDecrypted}
 use Rattle.frame_security.specs.Security.{joinMic}
 use Rattle.frame.specs.declared.join_fields.CfList.{CfList}
 use Rattle.frame.specs.declared.join_fields.CfList.the-variants.{Absent, Frequencies}
-use Rattle.frame.specs.declared.join_fields.JoinAcceptFields.{JoinAcceptFields}
 use Rattle.frame.specs.declared.parser.Reading.the-variants.{JoinRequest, JoinAccept}
 use Rattle.frame_build.specs.declared.creator.join.JoinAcceptParts.{JoinAcceptParts}
 use Rattle.frame_build.specs.declared.creator.join.JoinRequestParts.{JoinRequestParts}
@@ -177,31 +175,18 @@ module _ (key : List ℕ) (j : JoinAcceptParts) (hn : length (j .«app_nonce») 
   unfolding mic
   mic-is = tab-at (joinMic key (joinAcceptBody j channels)) 4 (joinMic-long key (joinAcceptBody j channels))
 
-  abbrev given : CfList → List ℕ → List ℕ → List ℕ → List ℕ → JoinAcceptFields
-  given l n i a fs =
-      record {
-        refusal = notRefused;
-        «app_nonce» = n;
-        «net_id» = i;
-        «dev_addr» = a;
-        «dl_settings» = j .«dl_settings»;
-        «rx_delay» = j .«rx_delay» % 16;
-        «cf_list» = l;
-        frequencies = fs;
-        masks = zeros 9;
-      }
-
+  -- the three arrays, written out, are those that were given
   as-given : (l : CfList) (fs : List ℕ)
-      → given l (tab 3 (at (j .«app_nonce»))) (tab 3 (at (j .«net_id»))) (tab 4 (at (j .«dev_addr»))) fs
-      ≡ acceptRecord j l fs
+      → acceptRecord j (tab 3 (at (j .«app_nonce»))) (tab 3 (at (j .«net_id»))) (tab 4 (at (j .«dev_addr»))) l fs
+      ≡ acceptRecord j (j .«app_nonce») (j .«net_id») (j .«dev_addr») l fs
   as-given l fs =
-      ap₂ (λ (n i : List ℕ). given l n i (tab 4 (at (j .«dev_addr»))) fs) (sym (tab-at (j .«app_nonce») 3 hn))
+      ap₂ (λ (n i : List ℕ). acceptRecord j n i (tab 4 (at (j .«dev_addr»))) l fs) (sym (tab-at (j .«app_nonce») 3 hn))
       (sym (tab-at (j .«net_id») 3 hi))
-      ∙ ap (λ (a : List ℕ). given l (j .«app_nonce») (j .«net_id») a fs) (sym (tab-at (j .«dev_addr») 4 ha))
+      ∙ ap (λ (a : List ℕ). acceptRecord j (j .«app_nonce») (j .«net_id») a l fs) (sym (tab-at (j .«dev_addr») 4 ha))
 
   -- without a list
   pub accept-back-none : j .«with_c_f_list» ≡ false
-      → acceptFields (signed key (joinAcceptBody j channels)) ≡ acceptRecord j Absent (zeros 5)
+      → acceptFields (signed key (joinAcceptBody j channels)) ≡ listedFields j channels false
   unfolding acceptFields cfListOf frequenciesOf masksOf body head mic
   accept-back-none w =
       let e : signed key (joinAcceptBody j channels) ≡ head ++ mic =
@@ -210,7 +195,7 @@ module _ (key : List ℕ) (j : JoinAcceptParts) (hn : length (j .«app_nonce») 
 
   -- with one: five channels, absent ones 0
   pub accept-back-list : j .«with_c_f_list» ≡ true → tooHigh channels ≡ false
-      → acceptFields (signed key (joinAcceptBody j channels)) ≡ acceptRecord j Frequencies (tab 5 (at channels))
+      → acceptFields (signed key (joinAcceptBody j channels)) ≡ listedFields j channels true
   unfolding acceptFields cfListOf frequenciesOf masksOf body head mic cfListBytes
   accept-back-list w h =
       let e : signed key (joinAcceptBody j channels) ≡ head ++ (cfListBytes channels ++ mic) =
@@ -218,7 +203,7 @@ module _ (key : List ℕ) (j : JoinAcceptParts) (hn : length (j .«app_nonce») 
       ap acceptFields e
       ∙ as-given Frequencies
       (tab 5 (λ i. at channels i % 256 + at channels i / 256 % 256 * 256 + at channels i / 65536 % 256 * 65536))
-      ∙ ap (acceptRecord j Frequencies)
+      ∙ ap (acceptRecord j (j .«app_nonce») (j .«net_id») (j .«dev_addr») Frequencies)
       (tab-ext 5 (λ i. at channels i % 256 + at channels i / 256 % 256 * 256 + at channels i / 65536 % 256 * 65536) (at channels)
       (λ i l. three-bytes (at channels i) (fits channels h i)))
 
