@@ -23,7 +23,7 @@ pub record RequestGiven (j : JoinRequestParts) : Type 0 where
   pub dev : length (j .«dev_eui») ≡ 8
   pub nonce : length (j .«dev_nonce») ≡ 2
 
--- a join-accept is enciphered whole, which only bytes can be undone of
+-- a join-accept is enciphered, MIC and all; deciphering gives back what went in where that is bytes
 pub record AcceptGiven (k : List ℕ) (j : JoinAcceptParts) : Type 0 where
   pub key : ByteArray 16 k
   pub nonce : ByteArray 3 (j .«app_nonce»)
