@@ -20,8 +20,16 @@
  *   14 CounterMismatch           the low half of the counter differs from the frame's FCnt
  *   15 OffsetOutside             an offset at or past the payload's length
  *
- * The bytes above the low one hold the place of a refusal (0 in this version), or of a building the frame's length, as of a
- * frame that is taken out of a buffer.
+ * The bytes above the low one hold, of a refusal, its place: all 56 bits of it, the place modulo 2^56. Reading names the place,
+ * and every call that reads a frame first hands it on:
+ *
+ *   12, 1   the frame's length
+ *    2, 3   0, the byte that holds version and type
+ *    4      the frame's length, of a join message; 5, the byte that holds the length of FOpts, of a data frame whose header does
+ *           not fit; 0, of a frame that is accepted but of another type than the call needs
+ *
+ * A refusal that does not come from reading has place 0, so also 12 of a frame to build. Of a frame that was built, or taken out
+ * of a buffer, these bytes hold its length.
  * A refusal changes no byte that was lent.
  */
 #ifndef ZINOVOKY_H
@@ -38,7 +46,7 @@ extern "C" {
  *
  *    0 to 7     the refusal, 0 where the frame is accepted
  *    of a refused frame:
- *    8 to 63    the place of the refusal
+ *    8 to 63    the place of the refusal, as above
  *    of an accepted one:
  *    8 to 10    the type: 0 join-request, 1 join-accept, 2 to 5 data
  *   11          whether a port is reported
@@ -52,9 +60,19 @@ extern "C" {
  * A join message has neither port nor payload, and 0 for FCtrl and FCnt. */
 uint64_t zinovoky_read(const uint8_t *frame, size_t frame_len);
 
-/* The number and the place of a refusal. */
-static inline uint8_t zinovoky_refusal(uint64_t reading) { return (uint8_t)reading; }
-static inline uint64_t zinovoky_refusal_place(uint64_t reading) { return reading >> 8; }
+/* The number and the place of a refusal: of a reading, and of every other answer too. Where the number is 0, there is no place. */
+static inline uint8_t zinovoky_refusal(uint64_t answer) { return (uint8_t)answer; }
+static inline uint64_t zinovoky_refusal_place(uint64_t answer) { return answer >> 8; }
+
+/* The name of a refusal by its number, as in the table above: a string that is never freed. Of 0 it is "none", and of a number
+ * that is none of the table's "unknown". */
+static inline const char *zinovoky_refusal_name(uint8_t number) {
+    static const char *const names[] = {
+        "none", "InvalidPayload", "UnsupportedMajorVersion", "InvalidMessageType", "InvalidData", "InvalidMic", "InvalidKey",
+        "BufferTooShort", "InvalidChannelList", "MacCommandTooBigForFOpts", "DataAndMacCommandsInPayloadNotAllowed",
+        "FRMPayloadWithFportZero", "FrameTooLong", "FOptsLenSet", "CounterMismatch", "OffsetOutside"};
+    return number < sizeof names / sizeof *names ? names[number] : "unknown";
+}
 
 /* The fields of a reading whose refusal is 0. */
 static inline uint8_t zinovoky_type(uint64_t reading) { return reading >> 8 & 7; }

@@ -3,8 +3,8 @@
  * each mismatch, then 'N passed, M failed'; the exit status is 1 where any failed. `run` builds and runs it.
  *
  * Where the expected values come from: bytes and readings are in expected.h, which tools/oracle computes and which names the
- * source of each. A refusal's number is that of docs/RULES.md, Refusals; an answer is that number, or 256 times the length of
- * what was built, as the header says. */
+ * source of each. A refusal's number and place are those of docs/RULES.md, Refusals: an answer is the number and 256 times the
+ * place, or 256 times the length of what was built, as the header says. Where TRY names a number alone, the place is 0. */
 #define _DEFAULT_SOURCE
 #include "expected.h"
 #include "lent.h"
@@ -51,15 +51,30 @@ static void read_fields(const struct reading *due, uint64_t reading) {
     field("zinovoky_fcnt", zinovoky_fcnt(reading), due->fcnt);
 }
 
+/* A call on the frame of a row, named after both. */
+static void begin_of(const char *what, const struct reading *due) {
+    static char label[160];
+    snprintf(label, sizeof label, "%s of %s", what, due->what);
+    begin(label);
+}
+
 static void readings(void) {
     for (size_t i = 0; i < sizeof READINGS / sizeof *READINGS; i++) {
         const struct reading *due = &READINGS[i];
-        begin(due->what);
+        begin_of("zinovoky_read", due);
         uint64_t reading = zinovoky_read(lend(due->frame, due->len), due->len);
         ended(reading, due->reading);
         field("zinovoky_refusal", zinovoky_refusal(reading), due->refusal);
         if (due->refusal == 0) read_fields(due, reading);
-        else field("zinovoky_refusal_place", zinovoky_refusal_place(reading), 0);
+        else field("zinovoky_refusal_place", zinovoky_refusal_place(reading), due->place);
+    }
+}
+
+static void names(void) {
+    for (unsigned number = 0; number < 256; number++) {
+        const char *due = number < sizeof NAMES / sizeof *NAMES ? NAMES[number] : "unknown";
+        begin(due);
+        ended((uint64_t)strcmp(zinovoky_refusal_name((uint8_t)number), due), 0);
     }
 }
 
@@ -73,14 +88,12 @@ static void join_fields(void) {
     TRY(0, zinovoky_join_request_fields(LENT(REQUEST), ANSWER(23, REQUEST_FIELDS)));
     TRY(7, zinovoky_join_request_fields(LENT(REQUEST), ROOM(21)));
     TRY(4, zinovoky_join_request_fields(LENT(ACCEPT), ROOM(21)));
-    TRY(1, zinovoky_join_request_fields(NONE, ROOM(0)));
 
     TRY(0, zinovoky_join_accept_fields(LENT(ACCEPT_CLEAR), ANSWER(42, ACCEPT_FIELDS)));
     TRY(0, zinovoky_join_accept_fields(LENT(LISTED_CLEAR), ANSWER(42, LISTED_FIELDS)));
     TRY(0, zinovoky_join_accept_fields(LENT(MASKS_CLEAR), ANSWER(43, MASKS_FIELDS)));
     TRY(7, zinovoky_join_accept_fields(LENT(ACCEPT_CLEAR), ROOM(41)));
     TRY(4, zinovoky_join_accept_fields(LENT(DATA), ROOM(42)));
-    TRY(12, zinovoky_join_accept_fields(LENT(LONG), ROOM(0)));
 }
 
 static void mic_tests(void) {
@@ -91,12 +104,12 @@ static void mic_tests(void) {
     TRY(0, zinovoky_join_accept_mic(LENT(ACCEPT_CLEAR), KEY(APP_KEY), verdict(1)));
     TRY(0, zinovoky_join_accept_mic(LENT(LISTED_CLEAR), KEY(APP), verdict(1)));
     TRY(0, zinovoky_join_accept_mic(LENT(ACCEPT), KEY(APP_KEY), verdict(0)));
-    TRY(2, zinovoky_join_accept_mic(LENT(VERSION), KEY(APP_KEY), no_verdict()));
+    TRY(4, zinovoky_join_accept_mic(LENT(REQUEST), KEY(APP_KEY), no_verdict()));
 
     TRY(0, zinovoky_data_mic(LENT(DATA), KEY(NWK), 1, verdict(1)));
     TRY(0, zinovoky_data_mic(LENT(LONGEST), KEY(NWK), 1, verdict(1)));
     TRY(0, zinovoky_data_mic(LENT(DATA), KEY(NWK), 0x10001, verdict(0)));
-    TRY(3, zinovoky_data_mic(LENT(TYPE_6), KEY(NWK), 1, no_verdict()));
+    TRY(4, zinovoky_data_mic(LENT(ACCEPT), KEY(NWK), 1, no_verdict()));
 }
 
 static void data_decryption(void) {
@@ -111,7 +124,7 @@ static void data_decryption(void) {
     TRY(0, zinovoky_decrypt_data_checked(BECOMES(DOWN, DOWN_CLEAR), 0, KEY(NWK), KEY(APP), 0x1fffe));
     TRY(5, zinovoky_decrypt_data_checked(LENT(DATA), 3, KEY(NWK), KEY(APP), 0));
     TRY(6, zinovoky_decrypt_data_checked(LENT(DATA), 1, KEY(NWK), KEY(APP), 1));
-    TRY(4, zinovoky_decrypt_data_checked(LENT(HEADER_SHORT), 3, KEY(NWK), KEY(APP), 0));
+    TRY(4, zinovoky_decrypt_data_checked(LENT(ACCEPT), 3, KEY(NWK), KEY(APP), 0));
 }
 
 static void join_accept_opening(void) {
@@ -123,7 +136,7 @@ static void join_accept_opening(void) {
     TRY(0, zinovoky_decrypt_join_accept_checked(BECOMES(LISTED, LISTED_CLEAR), KEY(APP)));
     TRY(5, zinovoky_decrypt_join_accept_checked(LENT(ACCEPT), KEY(NWK)));
     TRY(5, zinovoky_decrypt_join_accept_checked(LENT(LISTED), KEY(NWK)));
-    TRY(12, zinovoky_decrypt_join_accept_checked(LENT(LONG), KEY(APP)));
+    TRY(4, zinovoky_decrypt_join_accept_checked(LENT(DATA), KEY(APP)));
 
     TRY(0, zinovoky_session_keys(LENT(ACCEPT_CLEAR), lend(DEV_NONCE, 2), KEY(APP_KEY), ANSWER(32, SESSION_KEYS)));
     TRY(0, zinovoky_session_keys(LENT(ACCEPT_CLEAR), lend(DEV_NONCE, 2), KEY(APP_KEY), ANSWER(40, SESSION_KEYS)));
@@ -214,7 +227,6 @@ static void holding(void) {
     TRY(0, zinovoky_hold(LENT(LONGEST), KEYS, 1, hold_room(HELD_LONGEST)));
     TRY(14, zinovoky_hold(LENT(DATA), KEYS, 0, held(HELD_BARE)));
     TRY(5, zinovoky_hold(LENT(DATA), KEY(APP), KEY(NWK), 1, held(HELD_NOTHING)));
-    TRY(1, zinovoky_hold(NONE, KEYS, 1, held(HELD_NOTHING)));
     TRY(4, zinovoky_hold(LENT(REQUEST), KEYS, 1, held(HELD_DATA)));
 }
 
@@ -241,10 +253,37 @@ static void taking_out(void) {
     TRY(7, zinovoky_held_frame(held(HELD_LONGEST), ROOM(254)));
 }
 
+/* Every call that reads a frame first answers a refusal of reading as zinovoky_read does, number and place, whatever else it was
+ * given: no room for its answer, a counter that is not the frame's. */
+#define FRAME lend(due->frame, due->len), due->len
+#define HANDS_ON(made) (begin_of(#made, due), ended(made, due->reading))
+
+static void handed_on(const struct reading *due) {
+    HANDS_ON(zinovoky_join_request_fields(FRAME, ROOM(0)));
+    HANDS_ON(zinovoky_join_accept_fields(FRAME, ROOM(42)));
+    HANDS_ON(zinovoky_join_request_mic(FRAME, KEY(APP), no_verdict()));
+    HANDS_ON(zinovoky_join_accept_mic(FRAME, KEY(APP_KEY), no_verdict()));
+    HANDS_ON(zinovoky_data_mic(FRAME, KEY(NWK), 1, no_verdict()));
+    HANDS_ON(zinovoky_decrypt_data(FRAME, 0, KEYS, 1));
+    HANDS_ON(zinovoky_decrypt_data_checked(FRAME, 3, KEYS, 1));
+    HANDS_ON(zinovoky_decrypt_join_accept(FRAME, KEY(APP_KEY)));
+    HANDS_ON(zinovoky_decrypt_join_accept_checked(FRAME, KEY(APP_KEY)));
+    HANDS_ON(zinovoky_session_keys(FRAME, lend(DEV_NONCE, 2), KEY(APP_KEY), ROOM(31)));
+    HANDS_ON(zinovoky_amend(FRAME, KEYS, 0x10000, NUMBERS(OUTSIDE)));
+    HANDS_ON(zinovoky_hold(FRAME, KEYS, 0x10000, held(HELD_DATA)));
+}
+
+static void refused_readings(void) {
+    for (size_t i = 0; i < sizeof READINGS / sizeof *READINGS; i++)
+        if (READINGS[i].refusal != 0) handed_on(&READINGS[i]);
+}
+
 int main(void) {
     map_slices();
     for (way = 0; way < WAYS; way++) {
         readings();
+        refused_readings();
+        names();
         nwk_ids();
         join_fields();
         mic_tests();

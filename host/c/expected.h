@@ -119,6 +119,10 @@ static const uint8_t LONG[256] = {
     0x40, 0x40, 0x40, 0x40, 0x40, 0x40, 0x40, 0x40, 0x40, 0x40, 0x40, 0x40, 0x40, 0x40, 0x40, 0x40,
     0x40, 0x40, 0x40, 0x40, 0x40, 0x40, 0x40, 0x40, 0x40, 0x40, 0x40, 0x40, 0x40, 0x40, 0x40, 0x40};
 
+/* 70,000 bytes */
+static const uint8_t LONGER[70000] = {
+    0x40};
+
 /* the AppKey of ACCEPT and MASKS_CLEAR */
 static const uint8_t APP_KEY[16] = {
     0x00, 0x11, 0x22, 0x33, 0x44, 0x55, 0x66, 0x77, 0x88, 0x99, 0xaa, 0xbb, 0xcc, 0xdd, 0xee, 0xff};
@@ -472,32 +476,35 @@ static const uint8_t HELD_LONGEST[868] = {
 static const uint8_t HELD_NOTHING[868] = {
     0x00};
 
-/* A frame, its reading as one number, and the fields that are taken out of that; of a refused frame the refusal alone. */
+/* A frame, its reading as one number, and the fields that are taken out of that; of a refused frame number and place alone. */
 struct reading {
     const char *what;
     const uint8_t *frame;
     size_t len;
     uint64_t reading;
-    uint64_t refusal, type, has_port, port, payload_kind, payload_at, payload_len, mic_at, fctrl, fopts_len, fcnt;
+    uint64_t refusal, place, type, has_port, port, payload_kind, payload_at, payload_len, mic_at, fctrl, fopts_len, fcnt;
 };
 
 static const struct reading READINGS[] = {
-    {"zinovoky_read of DATA", DATA, 18, 0x0001800e09011a00, 0, 2, 1, 1, 1, 9, 5, 14, 128, 0, 1},
-    {"zinovoky_read of DOWN", DOWN, 30, 0xfffe301a09002d00, 0, 5, 1, 0, 2, 9, 17, 26, 48, 0, 65534},
-    {"zinovoky_read of FOPTS", FOPTS, 35, 0xfffe921f0bc81b00, 0, 3, 1, 200, 1, 11, 20, 31, 146, 2, 65534},
-    {"zinovoky_read of BARE", BARE, 12, 0x0000000808000200, 0, 2, 0, 0, 0, 8, 0, 8, 0, 0, 0},
-    {"zinovoky_read of PORT_ALONE", PORT_ALONE, 13, 0x0000000909001200, 0, 2, 0, 0, 1, 9, 0, 9, 0, 0, 0},
-    {"zinovoky_read of LONGEST", LONGEST, 255, 0x000100fb09011c00, 0, 4, 1, 1, 1, 9, 242, 251, 0, 0, 1},
-    {"zinovoky_read of REQUEST", REQUEST, 23, 0x0000001313000000, 0, 0, 0, 0, 0, 19, 0, 19, 0, 0, 0},
-    {"zinovoky_read of ACCEPT", ACCEPT, 17, 0x0000000d0d000100, 0, 1, 0, 0, 0, 13, 0, 13, 0, 0, 0},
-    {"zinovoky_read of LISTED", LISTED, 33, 0x0000001d1d000100, 0, 1, 0, 0, 0, 29, 0, 29, 0, 0, 0},
-    {"zinovoky_read of VERSION", VERSION, 12, 0x0000000000000002, 2, 0, 0, 0, 0, 0, 0, 0, 0, 0, 0},
-    {"zinovoky_read of TYPE_6", TYPE_6, 12, 0x0000000000000003, 3, 0, 0, 0, 0, 0, 0, 0, 0, 0, 0},
-    {"zinovoky_read of HEADER_SHORT", HEADER_SHORT, 12, 0x0000000000000004, 4, 0, 0, 0, 0, 0, 0, 0, 0, 0, 0},
-    {"zinovoky_read of LONG", LONG, 256, 0x000000000000000c, 12, 0, 0, 0, 0, 0, 0, 0, 0, 0, 0},
-    {"zinovoky_read of no byte", DATA, 0, 0x0000000000000001, 1, 0, 0, 0, 0, 0, 0, 0, 0, 0, 0},
-    {"zinovoky_read of eleven bytes", DATA, 11, 0x0000000000000001, 1, 0, 0, 0, 0, 0, 0, 0, 0, 0, 0},
-    {"zinovoky_read of a join-request cut short", REQUEST, 22, 0x0000000000000004, 4, 0, 0, 0, 0, 0, 0, 0, 0, 0, 0},
+    {"DATA", DATA, 18, 0x0001800e09011a00, 0, 0, 2, 1, 1, 1, 9, 5, 14, 128, 0, 1},
+    {"DOWN", DOWN, 30, 0xfffe301a09002d00, 0, 0, 5, 1, 0, 2, 9, 17, 26, 48, 0, 65534},
+    {"FOPTS", FOPTS, 35, 0xfffe921f0bc81b00, 0, 0, 3, 1, 200, 1, 11, 20, 31, 146, 2, 65534},
+    {"BARE", BARE, 12, 0x0000000808000200, 0, 0, 2, 0, 0, 0, 8, 0, 8, 0, 0, 0},
+    {"PORT_ALONE", PORT_ALONE, 13, 0x0000000909001200, 0, 0, 2, 0, 0, 1, 9, 0, 9, 0, 0, 0},
+    {"LONGEST", LONGEST, 255, 0x000100fb09011c00, 0, 0, 4, 1, 1, 1, 9, 242, 251, 0, 0, 1},
+    {"REQUEST", REQUEST, 23, 0x0000001313000000, 0, 0, 0, 0, 0, 0, 19, 0, 19, 0, 0, 0},
+    {"ACCEPT", ACCEPT, 17, 0x0000000d0d000100, 0, 0, 1, 0, 0, 0, 13, 0, 13, 0, 0, 0},
+    {"LISTED", LISTED, 33, 0x0000001d1d000100, 0, 0, 1, 0, 0, 0, 29, 0, 29, 0, 0, 0},
+    {"VERSION", VERSION, 12, 0x0000000000000002, 2, 0, 0, 0, 0, 0, 0, 0, 0, 0, 0, 0},
+    {"TYPE_6", TYPE_6, 12, 0x0000000000000003, 3, 0, 0, 0, 0, 0, 0, 0, 0, 0, 0, 0},
+    {"HEADER_SHORT", HEADER_SHORT, 12, 0x0000000000000504, 4, 5, 0, 0, 0, 0, 0, 0, 0, 0, 0, 0},
+    {"LONG", LONG, 256, 0x000000000001000c, 12, 256, 0, 0, 0, 0, 0, 0, 0, 0, 0, 0},
+    {"LONGER", LONGER, 70000, 0x000000000111700c, 12, 70000, 0, 0, 0, 0, 0, 0, 0, 0, 0, 0},
+    {"no byte", DATA, 0, 0x0000000000000001, 1, 0, 0, 0, 0, 0, 0, 0, 0, 0, 0, 0},
+    {"eleven bytes", DATA, 11, 0x0000000000000b01, 1, 11, 0, 0, 0, 0, 0, 0, 0, 0, 0, 0},
+    {"a join-request cut short", REQUEST, 22, 0x0000000000001604, 4, 22, 0, 0, 0, 0, 0, 0, 0, 0, 0, 0},
+    {"a join-accept cut short", ACCEPT, 16, 0x0000000000001004, 4, 16, 0, 0, 0, 0, 0, 0, 0, 0, 0, 0},
+    {"a longer one cut short", LISTED, 32, 0x0000000000002004, 4, 32, 0, 0, 0, 0, 0, 0, 0, 0, 0, 0},
 };
 
 /* Addresses in frame order, and their NwkID. */
@@ -508,6 +515,26 @@ static const struct { uint8_t addr[4], nwk_id; } NWK_IDS[] = {
     {{254, 254, 254, 1}, 0},
     {{0, 0, 0, 255}, 127},
     {{255, 255, 255, 0}, 0},
+};
+
+/* The names of the refusals by their numbers (docs/RULES.md, Refusals); 0 refuses nothing. */
+static const char *const NAMES[] = {
+    "none",
+    "InvalidPayload",
+    "UnsupportedMajorVersion",
+    "InvalidMessageType",
+    "InvalidData",
+    "InvalidMic",
+    "InvalidKey",
+    "BufferTooShort",
+    "InvalidChannelList",
+    "MacCommandTooBigForFOpts",
+    "DataAndMacCommandsInPayloadNotAllowed",
+    "FRMPayloadWithFportZero",
+    "FrameTooLong",
+    "FOptsLenSet",
+    "CounterMismatch",
+    "OffsetOutside",
 };
 
 #endif

@@ -18,9 +18,9 @@
 enum { BETWEEN_GUARDS, AT_THE_END, AT_THE_BEGINNING, WAYS };
 static const char *const WAY[WAYS] = {"between guards", "at the end", "at the beginning"};
 
-/* A multiple of any page. */
-#define MAPPED 65536
-#define MOST 1024
+/* A multiple of any page; the longest slice. */
+#define MAPPED 131072
+#define MOST 70000
 #define SLICES 12
 #define GUARD 0xE7
 #define FILL 0xA5

@@ -8,6 +8,7 @@ import pathlib
 
 import generate
 import oracle
+import records
 
 HEADER = pathlib.Path(__file__).resolve().parent.parent.parent / "host" / "c" / "expected.h"
 NETWORK, APPLICATION = generate.DOCUMENTED_NETWORK_KEY, generate.DOCUMENTED_APPLICATION_KEY
@@ -21,6 +22,10 @@ FOPTS_COMMANDS, FOPTS_PAYLOAD = b"\2\3", b"twenty bytes of text"
 BARE_FIELDS = oracle.DataFields(False, True, bytes(4), 0, 0, None)
 LONGEST_FIELDS = oracle.DataFields(True, True, bytes.fromhex("04030201"), 0, 1, 1)
 
+NAMES = """none InvalidPayload UnsupportedMajorVersion InvalidMessageType InvalidData InvalidMic InvalidKey BufferTooShort
+    InvalidChannelList MacCommandTooBigForFOpts DataAndMacCommandsInPayloadNotAllowed FRMPayloadWithFportZero FrameTooLong
+    FOptsLenSet CounterMismatch OffsetOutside""".split()
+
 PREAMBLE = """\
 /* Written by tools/oracle/c_values.py, from the rules and over OpenSSL: what every_call.c lends, and what must come of it. */
 #ifndef EXPECTED_H
@@ -31,13 +36,13 @@ PREAMBLE = """\
 """
 
 READING = """
-/* A frame, its reading as one number, and the fields that are taken out of that; of a refused frame the refusal alone. */
+/* A frame, its reading as one number, and the fields that are taken out of that; of a refused frame number and place alone. */
 struct reading {
     const char *what;
     const uint8_t *frame;
     size_t len;
     uint64_t reading;
-    uint64_t refusal, type, has_port, port, payload_kind, payload_at, payload_len, mic_at, fctrl, fopts_len, fcnt;
+    uint64_t refusal, place, type, has_port, port, payload_kind, payload_at, payload_len, mic_at, fctrl, fopts_len, fcnt;
 };
 """
 
@@ -53,30 +58,30 @@ def fields(frame):
     """What the inline functions of the header take out of a reading, in the order of the struct above."""
     try:
         reading = oracle.read(frame)
-    except oracle.Refused as refusal:
-        return [refusal.number] + [0] * 10
+    except oracle.Refused as refused:
+        return [*refused.refusal] + [0] * 10
     if not isinstance(reading, oracle.Data):
         mic = len(frame) - 4
-        return [0, reading.mtype, 0, 0, 0, mic, 0, mic, 0, 0, 0]
+        return [*oracle.ACCEPTED, reading.mtype, 0, 0, 0, mic, 0, mic, 0, 0, 0]
     at, end = reading.payload or (len(frame) - 4, len(frame) - 4)
     kind = 0 if reading.payload is None else 2 if reading.commands else 1
     has_port, port = int(reading.port is not None), reading.port or 0
     header = [reading.fctrl, reading.fctrl % 16, reading.fcnt]
-    return [0, reading.mtype, has_port, port, kind, at, end - at, end, *header]
+    return [*oracle.ACCEPTED, reading.mtype, has_port, port, kind, at, end - at, end, *header]
 
 
 def packed(values):
     """The number that the header's table of bits makes of them."""
-    refusal, mtype, has_port, port, kind, at, _, mic, fctrl, _, fcnt = values
+    refusal, place, mtype, has_port, port, kind, at, _, mic, fctrl, _, fcnt = values
     if refusal:
-        return refusal
+        return place % 2**56 << 8 | refusal
     return mtype << 8 | has_port << 11 | kind << 12 | port << 16 | at << 24 | mic << 32 | fctrl << 40 | fcnt << 48
 
 
 def reading_row(what, name, frame):
     values = fields(frame)
     listed = ", ".join(str(v) for v in values)
-    return f'    {{"zinovoky_read of {what}", {name}, {len(frame)}, 0x{packed(values):016x}, {listed}}},\n'
+    return f'    {{"{what}", {name}, {len(frame)}, 0x{packed(values):016x}, {listed}}},\n'
 
 
 def build(of, commands, payload):
@@ -87,11 +92,6 @@ def clear_accept(rest):
     """A clear join-accept with these bytes behind the first, under the documented key."""
     message = bytes([0x20]) + rest
     return message + oracle.mic(generate.DOCUMENTED_APP_KEY, message)
-
-
-def request_fields(frame):
-    reading = oracle.read_as(oracle.JoinRequest, frame)
-    return b"".join(frame[slice(*p)] for p in (reading.app_eui, reading.dev_eui, reading.dev_nonce, reading.mic))
 
 
 def accept_fields(frame):
@@ -113,7 +113,7 @@ def join_messages():
     return [
         ("APP_KEY", generate.DOCUMENTED_APP_KEY, "the AppKey of ACCEPT and MASKS_CLEAR"),
         ("REQUEST", REQUEST, "the join-request of the crate's documentation, under APP"),
-        ("REQUEST_FIELDS", request_fields(REQUEST), "its fields"),
+        ("REQUEST_FIELDS", records.request_fields(REQUEST), "its fields"),
         ("ACCEPT", ACCEPT, "the join-accept of the crate's documentation"),
         ("ACCEPT_CLEAR", clear, "decrypted"),
         ("ACCEPT_FIELDS", accept_fields(clear), "its fields: no list"),
@@ -151,6 +151,7 @@ def data_frames():
         ("TYPE_6", bytes([0xC0]) + bytes(11), "type 6"),
         ("HEADER_SHORT", bytes([0x40, 0, 0, 0, 0, 1]) + bytes(6), "FOpts that are not there"),
         ("LONG", bytes([0x40] * 256), "256 bytes"),
+        ("LONGER", bytes([0x40]) + bytes(69999), "70,000 bytes"),
     ]
 
 
@@ -172,9 +173,11 @@ def held_frames():
 
 def readings(arrays):
     frames = {name: value for name, value, _ in arrays}
-    wholes = "DATA DOWN FOPTS BARE PORT_ALONE LONGEST REQUEST ACCEPT LISTED VERSION TYPE_6 HEADER_SHORT LONG".split()
+    good = "DATA DOWN FOPTS BARE PORT_ALONE LONGEST REQUEST ACCEPT LISTED"
+    bad = "VERSION TYPE_6 HEADER_SHORT LONG LONGER"
     cuts = [("no byte", "DATA", 0), ("eleven bytes", "DATA", 11), ("a join-request cut short", "REQUEST", 22)]
-    rows = [reading_row(name, name, frames[name]) for name in wholes]
+    cuts += [("a join-accept cut short", "ACCEPT", 16), ("a longer one cut short", "LISTED", 32)]
+    rows = [reading_row(name, name, frames[name]) for name in f"{good} {bad}".split()]
     rows += [reading_row(what, name, frames[name][:length]) for what, name, length in cuts]
     return "\nstatic const struct reading READINGS[] = {\n" + "".join(rows) + "};\n"
 
@@ -186,10 +189,16 @@ def nwk_ids():
     return head + "static const struct { uint8_t addr[4], nwk_id; } NWK_IDS[] = {\n" + rows + "};\n"
 
 
+def names():
+    rows = "".join(f'    "{name}",\n' for name in NAMES)
+    head = "\n/* The names of the refusals by their numbers (docs/RULES.md, Refusals); 0 refuses nothing. */\n"
+    return head + "static const char *const NAMES[] = {\n" + rows + "};\n"
+
+
 def text():
     arrays = data_frames() + join_messages() + held_frames()
     parts = [array(*entry) for entry in arrays]
-    return PREAMBLE + "".join(parts) + READING + readings(arrays) + nwk_ids() + "\n#endif\n"
+    return PREAMBLE + "".join(parts) + READING + readings(arrays) + nwk_ids() + names() + "\n#endif\n"
 
 
 if __name__ == "__main__":

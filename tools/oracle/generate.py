@@ -12,6 +12,7 @@ import oracle
 import records
 from records import (
     AMEND,
+    AMEND_LENT,
     BUILD_DATA,
     BUILD_JOIN_ACCEPT,
     BUILD_JOIN_REQUEST,
@@ -25,6 +26,7 @@ from records import (
     MIC_JOIN_REQUEST,
     READ,
     READ_CLEAR_JOIN_ACCEPT,
+    READ_JOIN_REQUEST,
     SESSION_KEYS,
 )
 
@@ -113,6 +115,12 @@ def clear_join_accepts(source):
         yield READ_CLEAR_JOIN_ACCEPT, [(bytes([first]) + bytes(length))[:length]]
 
 
+def join_request_fields(source):
+    yield READ_JOIN_REQUEST, [DOCUMENTED_JOIN_REQUEST]
+    for first in (0x00, 0x04, 0x1C):
+        yield READ_JOIN_REQUEST, [bytes([first]) + source.bytes(22)]
+
+
 def read(seed):
     source = Source(seed + 3)
     yield READ, [DOCUMENTED_JOIN_REQUEST]
@@ -123,6 +131,7 @@ def read(seed):
     yield from each_length(source)
     yield from each_header_length(source)
     yield from clear_join_accepts(source)
+    yield from join_request_fields(source)
 
 
 # ---- opened: MIC tests, decryption, session keys ---------------------------------------------------------------
@@ -414,6 +423,9 @@ class Held:
         given = self.counter if counter is None else counter
         return AMEND, [*self.keys, given, self.frame if frame is None else frame, amendments]
 
+    def lent(self, amendments):
+        return AMEND_LENT, [*self.keys, self.counter, self.frame, amendments]
+
     def hold(self, calls, room=None):
         room = len(self.frame) if room is None else room
         return HOLD, [*self.keys, self.counter, self.frame, room, calls]
@@ -502,6 +514,21 @@ def amended_unopened(source):
     yield held.call([], counter=held.counter ^ 1)
 
 
+def amended_lent(source):
+    """Lists on a frame that is lent: none, both ends, one byte twice, one outside; and openings that are refused."""
+    for length, port in itertools.product((0, 1, 17, 242), PORTS):
+        held = Held(source, port=port, payload=length)
+        value, last = source.byte, max(length - 1, 0)
+        yield held.lent([])
+        yield held.lent([(last, value()), (0, value()), (last, value())])
+        yield held.lent([(0, value()), (length, value()), (last, value())])
+    held = Held(source, payload=10)
+    for outside in (10, 255, 256, 65536, 0xFFFFFF):
+        yield held.lent([(9, source.byte()), (outside, source.byte())])
+    for keys, counter, frame in refused_openings(source, held):
+        yield AMEND_LENT, [*keys, counter, frame, [(9, 2), (10, 3)]]
+
+
 def amended(seed):
     source = Source(seed + 2)
     documented = [(i, c) for i, c in enumerate(b"HELLO")]
@@ -512,6 +539,7 @@ def amended(seed):
     yield from one_byte_twice(source)
     yield from no_payload(source)
     yield from amended_unopened(source)
+    yield from amended_lent(source)
 
 
 # ---- held: a frame held open, and a history of calls --------------------------------------------------------------
@@ -614,7 +642,49 @@ def held(seed):
     yield from held_unopened(source)
 
 
-LISTS = {"read": read, "opened": opened, "built": built, "amended": amended, "held": held}
+# ---- places: where a frame is bad, as every call that reads first says it -----------------------------------------
+
+
+def bad_frames(source):
+    """Each refusal of reading: lengths that no frame has, versions, types, lengths that no join message has, headers."""
+    for length in (0, 1, 11, 256, 257, 900):
+        yield source.bytes(length)
+    for first in (0x41, 0x02, 0x23, 0xC0, 0xE0):
+        yield bytes([first]) + source.bytes(22)
+    for first, length in ((0x00, 12), (0x00, 22), (0x1C, 24), (0x00, 255)):
+        yield bytes([first]) + source.bytes(length - 1)
+    for first, length in ((0x20, 12), (0x20, 16), (0x3C, 18), (0x20, 32), (0x20, 34), (0x20, 255)):
+        yield bytes([first]) + source.bytes(length - 1)
+    for fopts, length in ((1, 12), (15, 12), (11, 22), (15, 26)):
+        head = bytes([source.pick(FIRST_BYTES)]) + source.bytes(4) + bytes([source.byte() & 0xF0 | fopts])
+        yield head + source.bytes(length - 6)
+
+
+def good_frames(source):
+    """One of each type and length of a join message, which most calls refuse without a place."""
+    for first, length in ((0x00, 23), (0x20, 17), (0x20, 33), (0x40, 23), (0x60, 17), (0x80, 33), (0xA0, 12)):
+        yield bytes([first]) + source.bytes(4) + b"\0" + source.bytes(length - 6)
+
+
+def every_call_on(source, frame):
+    """Each call that reads first, on one frame."""
+    yield READ, [frame]
+    yield READ_JOIN_REQUEST, [frame]
+    yield READ_CLEAR_JOIN_ACCEPT, [frame]
+    yield from calls_on(source, frame)
+    opening = [source.key(), source.key(), source.counter(), frame]
+    yield AMEND, [*opening, [(0, 1)]]
+    yield AMEND_LENT, [*opening, [(0, 1)]]
+    yield HOLD, [*opening, 0, [(0, 1)]]
+
+
+def places(seed):
+    source = Source(seed + 5)
+    for frame in itertools.chain(bad_frames(source), good_frames(source)):
+        yield from every_call_on(source, frame)
+
+
+LISTS = {"read": read, "opened": opened, "built": built, "amended": amended, "held": held, "places": places}
 
 
 def bodies_of(cases):

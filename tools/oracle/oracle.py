@@ -12,7 +12,6 @@ from cryptography.hazmat.primitives.cmac import CMAC
 
 # ---- Numbers that a caller may see -----------------------------------------------------------------------------
 
-ACCEPTED = 0
 INVALID_PAYLOAD = 1
 UNSUPPORTED_MAJOR_VERSION = 2
 INVALID_MESSAGE_TYPE = 3
@@ -34,12 +33,17 @@ JOIN_REQUEST, JOIN_ACCEPT = 0, 1
 DATA_TYPES = (2, 3, 4, 5)
 
 
-class Refused(Exception):
-    """Ends a call with a number of the table."""
+# What a call ends in beside its values: a number of the table with its place, or number 0 where nothing is refused.
+Refusal = namedtuple("Refusal", "number place")
+ACCEPTED = Refusal(0, 0)
 
-    def __init__(self, number):
-        super().__init__(number)
-        self.number = number
+
+class Refused(Exception):
+    """Ends a call with a refusal. Reading names a place (docs/RULES.md, Refusals); of every other refusal it is 0."""
+
+    def __init__(self, number, place=0):
+        super().__init__(number, place)
+        self.refusal = Refusal(number, place)
 
 
 # ---- Cipher and MAC (FIPS 197, RFC 4493), by OpenSSL -------------------------------------------------------------
@@ -87,16 +91,19 @@ Clear = namedtuple("Clear", "app_nonce net_id dev_addr dl_settings rx_delay chan
 
 
 def read(frame):
-    """The reading of a frame: places as pairs (from, to), numbers as numbers. Refuses in the order 12, 1, 2, 3, 4."""
+    """The reading of a frame: places as pairs (from, to), numbers as numbers. Refuses in the order 12, 1, 2, 3, 4.
+
+    The place of a refusal is the frame's length where that is wrong, else the place of the byte that is.
+    """
     if len(frame) > FRAME_MAX:
-        raise Refused(FRAME_TOO_LONG)
+        raise Refused(FRAME_TOO_LONG, len(frame))
     if len(frame) < 12:
-        raise Refused(INVALID_PAYLOAD)
+        raise Refused(INVALID_PAYLOAD, len(frame))
     if frame[0] % 4 != 0:
-        raise Refused(UNSUPPORTED_MAJOR_VERSION)
+        raise Refused(UNSUPPORTED_MAJOR_VERSION, 0)
     mtype = frame[0] >> 5
     if mtype > 5:
-        raise Refused(INVALID_MESSAGE_TYPE)
+        raise Refused(INVALID_MESSAGE_TYPE, 0)
     if mtype == JOIN_REQUEST:
         return read_join_request(frame)
     if mtype == JOIN_ACCEPT:
@@ -106,13 +113,13 @@ def read(frame):
 
 def read_join_request(frame):
     if len(frame) != 23:
-        raise Refused(INVALID_DATA)
+        raise Refused(INVALID_DATA, len(frame))
     return JoinRequest(JOIN_REQUEST, (1, 9), (9, 17), (17, 19), (19, 23))
 
 
 def read_join_accept(frame):
     if len(frame) not in (17, 33):
-        raise Refused(INVALID_DATA)
+        raise Refused(INVALID_DATA, len(frame))
     return JoinAccept(JOIN_ACCEPT, len(frame))
 
 
@@ -120,7 +127,7 @@ def read_data(frame):
     length = len(frame)
     header = 7 + frame[5] % 16
     if 5 + header > length:
-        raise Refused(INVALID_DATA)
+        raise Refused(INVALID_DATA, 5)
     mtype = frame[0] >> 5
     uplink = mtype in (2, 4)
     fctrl = frame[5]
@@ -156,7 +163,7 @@ def read_clear_join_accept(frame):
 
 
 def read_as(kind, frame):
-    """The reading, refused with 4 if it is of another kind."""
+    """The reading, refused with 4 and without a place if it is of another kind."""
     reading = read(frame)
     if not isinstance(reading, kind):
         raise Refused(INVALID_DATA)
@@ -364,8 +371,14 @@ def amend_list(clear, amendments):
     return clear
 
 
+def amend_lent(network_key, application_key, counter, frame, amendments):
+    """A list of amendments of a frame that is lent as bytes: reading, 14, 5, 15."""
+    clear = open_for_amendment(network_key, application_key, counter, frame)
+    return seal_data(amend_list(clear, amendments), network_key, application_key, counter)
+
+
 def hold(network_key, application_key, counter, frame, calls):
-    """The opening's number, the number of each call, and the frame that is held in the end.
+    """The opening's refusal, that of each call, and the frame that is held in the end.
 
     A call is one amendment (a pair) or a list of them. A refused opening leaves a buffer of zeros, which holds a frame
     of no bytes: each amendment to it is refused, and only a list without one is made.
@@ -373,16 +386,17 @@ def hold(network_key, application_key, counter, frame, calls):
     lists = [call if isinstance(call, list) else [call] for call in calls]
     try:
         clear = open_for_amendment(network_key, application_key, counter, frame)
-    except Refused as refusal:
-        return refusal.number, [OFFSET_OUTSIDE if amendments else ACCEPTED for amendments in lists], b""
-    numbers = []
+    except Refused as refused:
+        outside = Refusal(OFFSET_OUTSIDE, 0)
+        return refused.refusal, [outside if amendments else ACCEPTED for amendments in lists], b""
+    refusals = []
     for amendments in lists:
         try:
             clear = amend_list(clear, amendments)
-            numbers.append(ACCEPTED)
-        except Refused as refusal:
-            numbers.append(refusal.number)
-    return ACCEPTED, numbers, seal_data(clear, network_key, application_key, counter)
+            refusals.append(ACCEPTED)
+        except Refused as refused:
+            refusals.append(refused.refusal)
+    return ACCEPTED, refusals, seal_data(clear, network_key, application_key, counter)
 
 
 def take_out(held, room):
@@ -393,12 +407,12 @@ def take_out(held, room):
 
 
 def amend_all(network_key, application_key, counter, frame, amendments):
-    """The opening's number, the number of each amendment, the caller's frame afterwards.
+    """The opening's refusal, that of each amendment, the caller's frame afterwards.
 
     Where the opening is refused the frame stays.
     """
-    number, numbers, held = hold(network_key, application_key, counter, frame, amendments)
-    return number, numbers, frame if number else held
+    refusal, refusals, held = hold(network_key, application_key, counter, frame, amendments)
+    return refusal, refusals, held if refusal == ACCEPTED else frame
 
 
 # ---- A frame held open in bytes (docs/RULES.md, Amendments) --------------------------------------------------------

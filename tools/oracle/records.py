@@ -85,26 +85,32 @@ class Amendments:
         return values, at + 2 + 5 * count
 
 
-class History:
-    """Two bytes, the number of calls; for each a 0 and one amendment as above, or a 1 and a list.
+class NumberedAmendments:
+    """Two bytes, their number; for each offset * 256 + value in four bytes."""
 
-    A list has its number in two bytes, then offset * 256 + value in four bytes for each of its amendments.
-    """
+    def write(self, value):
+        numbers = (offset * 256 + v for offset, v in value)
+        return len(value).to_bytes(2, "little") + b"".join(n.to_bytes(4, "little") for n in numbers)
+
+    def read(self, data, at):
+        count = int.from_bytes(data[at : at + 2], "little")
+        places = [at + 2 + 4 * i for i in range(count)]
+        return [divmod(int.from_bytes(data[p : p + 4], "little"), 256) for p in places], at + 2 + 4 * count
+
+
+class History:
+    """Two bytes, the number of calls; for each a 0 and one amendment by offset and value, or a 1 and numbered ones."""
 
     def write_call(self, call):
         if isinstance(call, list):
-            numbers = (offset * 256 + value for offset, value in call)
-            return b"\1" + len(call).to_bytes(2, "little") + b"".join(n.to_bytes(4, "little") for n in numbers)
+            return b"\1" + NumberedAmendments().write(call)
         offset, value = call
         return b"\0" + offset.to_bytes(4, "little") + bytes([value])
 
     def read_call(self, data, at):
         if data[at] == 0:
             return (int.from_bytes(data[at + 1 : at + 5], "little"), data[at + 5]), at + 6
-        count = int.from_bytes(data[at + 1 : at + 3], "little")
-        places = [at + 3 + 4 * i for i in range(count)]
-        numbers = [int.from_bytes(data[p : p + 4], "little") for p in places]
-        return [divmod(n, 256) for n in numbers], at + 3 + 4 * count
+        return NumberedAmendments().read(data, at + 1)
 
     def write(self, value):
         return len(value).to_bytes(2, "little") + b"".join(self.write_call(call) for call in value)
@@ -123,24 +129,33 @@ BYTE, HALF, WORD, KEY, MAYBE_KEY = Number(1), Number(2), Number(4), Fixed(16), M
 # ---- Answers -----------------------------------------------------------------------------------------------------
 
 
+def ended(refusal):
+    """How a call ended, in the one form of all answers: the number, and the place in eight bytes where it is not 0."""
+    place = refusal.place.to_bytes(8, "little") if refusal.number else b""
+    return bytes([refusal.number]) + place
+
+
+ACCEPTED = ended(oracle.ACCEPTED)
+
+
 def tested(call):
     def answer(*arguments):
         try:
-            return bytes([0, 1 if call(*arguments) else 0])
-        except Refused as refusal:
-            return bytes([refusal.number, 0])
+            return ACCEPTED + bytes([1 if call(*arguments) else 0])
+        except Refused as refused:
+            return ended(refused.refusal) + bytes(1)
 
     return answer
 
 
-def opened(call):
-    """For calls that decrypt the caller's frame, which is their last argument."""
+def changed(call, frame=-1):
+    """For calls that change the caller's frame; it is the last argument, or the one at the place given."""
 
     def answer(*arguments):
         try:
-            return bytes([0]) + call(*arguments)
-        except Refused as refusal:
-            return bytes([refusal.number]) + arguments[-1]
+            return ACCEPTED + call(*arguments)
+        except Refused as refused:
+            return ended(refused.refusal) + arguments[frame]
 
     return answer
 
@@ -148,9 +163,9 @@ def opened(call):
 def derived(*arguments):
     try:
         network, application = oracle.session_keys(*arguments)
-        return bytes([0]) + network + application
-    except Refused as refusal:
-        return bytes([refusal.number]) + bytes(32)
+        return ACCEPTED + network + application
+    except Refused as refused:
+        return ended(refused.refusal) + bytes(32)
 
 
 def built(call):
@@ -159,10 +174,10 @@ def built(call):
     def answer(*arguments):
         room = arguments[-1]
         try:
-            number, frame = 0, call(*arguments)
-        except Refused as refusal:
-            number, frame = refusal.number, b""
-        return bytes([number]) + len(frame).to_bytes(2, "little") + frame + bytes([FILL]) * (room - len(frame))
+            end, frame = ACCEPTED, call(*arguments)
+        except Refused as refused:
+            end, frame = ended(refused.refusal), b""
+        return end + len(frame).to_bytes(2, "little") + frame + bytes([FILL]) * (room - len(frame))
 
     return answer
 
@@ -173,13 +188,13 @@ def build_data(confirmed, uplink, dev_addr, fctrl, counter, port, commands, payl
 
 
 def amended(*arguments):
-    number, numbers, frame = oracle.amend_all(*arguments)
-    return bytes([number]) + bytes(numbers) + frame
+    refusal, refusals, frame = oracle.amend_all(*arguments)
+    return b"".join(ended(r) for r in (refusal, *refusals)) + frame
 
 
 def held(network, application, counter, frame, room, calls):
-    number, numbers, kept = oracle.hold(network, application, counter, frame, calls)
-    return bytes([number, *numbers]) + built(oracle.take_out)(kept, room)
+    refusal, refusals, kept = oracle.hold(network, application, counter, frame, calls)
+    return b"".join(ended(r) for r in (refusal, *refusals)) + built(oracle.take_out)(kept, room)
 
 
 def maybe_byte(value):
@@ -195,26 +210,40 @@ def shown_data(frame, data):
     return fields + frame[slice(*data.mic)]
 
 
+def request_fields(frame):
+    """What a join-request says, in frame order."""
+    request = oracle.read_as(oracle.JoinRequest, frame)
+    return b"".join(frame[slice(*p)] for p in (request.app_eui, request.dev_eui, request.dev_nonce, request.mic))
+
+
 def shown(frame):
     """The reader's answer."""
     try:
         reading = oracle.read(frame)
-    except Refused as refusal:
-        return bytes([refusal.number])
-    head = bytes([0, reading.mtype])
+    except Refused as refused:
+        return ended(refused.refusal)
+    head = ACCEPTED + bytes([reading.mtype])
     if isinstance(reading, oracle.JoinRequest):
-        return head + frame[1:]
+        return head + request_fields(frame)
     if isinstance(reading, oracle.JoinAccept):
         return head + bytes([reading.length])
     return head + shown_data(frame, reading)
+
+
+def shown_request(frame):
+    """The fields of a join-request."""
+    try:
+        return ACCEPTED + request_fields(frame)
+    except Refused as refused:
+        return ended(refused.refusal)
 
 
 def shown_clear(frame):
     """What a clear join-accept says."""
     try:
         oracle.read_as(oracle.JoinAccept, frame)
-    except Refused as refusal:
-        return bytes([refusal.number])
+    except Refused as refused:
+        return ended(refused.refusal)
     said = oracle.read_clear_join_accept(frame)
     parts = [frame[slice(*p)] for p in (said.app_nonce, said.net_id, said.dev_addr, said.mic)]
     numbers = bytes([said.dl_settings, said.rx_delay])
@@ -222,7 +251,7 @@ def shown_clear(frame):
         listed = b"\1" + b"".join(c.to_bytes(4, "little") for c in said.channels)
     else:
         listed = b"\0" if said.masks is None else b"\2" + frame[slice(*said.masks)]
-    return b"\0" + b"".join(parts) + numbers + listed
+    return ACCEPTED + b"".join(parts) + numbers + listed
 
 
 # ---- Kinds of call: fields in their order, and the answer ----------------------------------------------------------
@@ -234,15 +263,17 @@ BUILD_JOIN_REQUEST, BUILD_JOIN_ACCEPT, BUILD_DATA = 9, 10, 11
 AMEND = 12
 READ, READ_CLEAR_JOIN_ACCEPT = 13, 14
 HOLD = 15
+READ_JOIN_REQUEST = 16
+AMEND_LENT = 17
 
 KINDS = {
     MIC_JOIN_REQUEST: ([KEY, Bytes()], tested(oracle.test_mic_join_request)),
     MIC_JOIN_ACCEPT: ([KEY, Bytes()], tested(oracle.test_mic_clear_join_accept)),
     MIC_DATA: ([KEY, WORD, Bytes()], tested(oracle.test_mic_data)),
-    DECRYPT_DATA: ([MAYBE_KEY, MAYBE_KEY, WORD, Bytes()], opened(oracle.decrypt_data)),
-    DECRYPT_DATA_CHECKED: ([KEY, MAYBE_KEY, WORD, Bytes()], opened(oracle.decrypt_data_checked)),
-    DECRYPT_JOIN_ACCEPT: ([KEY, Bytes()], opened(oracle.decrypt_join_accept)),
-    DECRYPT_JOIN_ACCEPT_CHECKED: ([KEY, Bytes()], opened(oracle.decrypt_join_accept_checked)),
+    DECRYPT_DATA: ([MAYBE_KEY, MAYBE_KEY, WORD, Bytes()], changed(oracle.decrypt_data)),
+    DECRYPT_DATA_CHECKED: ([KEY, MAYBE_KEY, WORD, Bytes()], changed(oracle.decrypt_data_checked)),
+    DECRYPT_JOIN_ACCEPT: ([KEY, Bytes()], changed(oracle.decrypt_join_accept)),
+    DECRYPT_JOIN_ACCEPT_CHECKED: ([KEY, Bytes()], changed(oracle.decrypt_join_accept_checked)),
     SESSION_KEYS: ([KEY, Fixed(2), Bytes()], derived),
     BUILD_JOIN_REQUEST: ([Fixed(8), Fixed(8), Fixed(2), KEY, HALF], built(oracle.build_join_request)),
     BUILD_JOIN_ACCEPT: (
@@ -257,6 +288,8 @@ KINDS = {
     READ: ([Bytes()], shown),
     READ_CLEAR_JOIN_ACCEPT: ([Bytes()], shown_clear),
     HOLD: ([KEY, KEY, WORD, Bytes(), HALF, History()], held),
+    READ_JOIN_REQUEST: ([Bytes()], shown_request),
+    AMEND_LENT: ([KEY, KEY, WORD, Bytes(), NumberedAmendments()], changed(oracle.amend_lent, frame=-2)),
 }
 
 

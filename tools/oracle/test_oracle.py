@@ -14,12 +14,20 @@ import records
 HEX = bytes.fromhex
 
 
-def number_of(call, *arguments):
+def refusal_of(call, *arguments):
+    """Number and place."""
     try:
         call(*arguments)
-        return 0
-    except oracle.Refused as refusal:
-        return refusal.number
+        return oracle.ACCEPTED
+    except oracle.Refused as refused:
+        return refused.refusal
+
+
+def frame_of(first, length, **at):
+    frame = bytearray([first] + [0xEE] * (length - 1))
+    for place, value in at.items():
+        frame[int(place[1:])] = value
+    return bytes(frame)
 
 
 class Published(unittest.TestCase):
@@ -85,37 +93,31 @@ class Documented(unittest.TestCase):
 class Rules(unittest.TestCase):
     """The rows of docs/RULES.md, "Examples"."""
 
-    def frame(self, first, length, **at):
-        frame = bytearray([first] + [0xEE] * (length - 1))
-        for place, value in at.items():
-            frame[int(place[1:])] = value
-        return bytes(frame)
-
-    def refused(self, frame):
-        return number_of(oracle.read, frame)
+    def number(self, frame):
+        return refusal_of(oracle.read, frame).number
 
     def test_p1_to_p4(self):
-        self.assertEqual(self.refused(b""), 1)
-        self.assertEqual(self.refused(self.frame(0x43, 11)), 1)
-        reading = oracle.read(self.frame(0x40, 12, b5=0))
+        self.assertEqual(self.number(b""), 1)
+        self.assertEqual(self.number(frame_of(0x43, 11)), 1)
+        reading = oracle.read(frame_of(0x40, 12, b5=0))
         self.assertEqual((reading.port, reading.payload), (None, None))
-        self.assertEqual(self.refused(self.frame(0x40, 12, b5=1)), 4)
+        self.assertEqual(self.number(frame_of(0x40, 12, b5=1)), 4)
 
     def test_p5_to_p7(self):
-        reading = oracle.read(self.frame(0x40, 13, b5=1))
+        reading = oracle.read(frame_of(0x40, 13, b5=1))
         self.assertEqual((reading.fopts, reading.payload), ((8, 9), None))
-        reading = oracle.read(self.frame(0x40, 13, b5=0, b8=0))
+        reading = oracle.read(frame_of(0x40, 13, b5=0, b8=0))
         self.assertEqual((reading.port, reading.payload, reading.commands), (None, (9, 9), False))
-        reading = oracle.read(self.frame(0x40, 14, b5=0, b8=0))
+        reading = oracle.read(frame_of(0x40, 14, b5=0, b8=0))
         self.assertEqual((reading.port, reading.payload, reading.commands), (0, (9, 10), True))
 
     def test_p8_to_p13(self):
-        self.assertEqual(self.refused(self.frame(0x41, 12)), 2)
-        self.assertEqual(self.refused(self.frame(0xC0, 12)), 3)
-        self.assertEqual([self.refused(self.frame(0, n)) for n in (22, 23)], [4, 0])
-        self.assertEqual([self.refused(self.frame(0x20, n)) for n in (17, 18, 33)], [0, 4, 0])
-        self.assertEqual(self.refused(self.frame(0x40, 256)), 12)
-        reading = oracle.read(self.frame(0x5C, 12, b5=0))
+        self.assertEqual(self.number(frame_of(0x41, 12)), 2)
+        self.assertEqual(self.number(frame_of(0xC0, 12)), 3)
+        self.assertEqual([self.number(frame_of(0, n)) for n in (22, 23)], [4, 0])
+        self.assertEqual([self.number(frame_of(0x20, n)) for n in (17, 18, 33)], [0, 4, 0])
+        self.assertEqual(self.number(frame_of(0x40, 256)), 12)
+        reading = oracle.read(frame_of(0x5C, 12, b5=0))
         self.assertEqual((reading.mtype, reading.port, reading.payload), (2, None, None))
 
     def test_p14_to_p16(self):
@@ -125,7 +127,95 @@ class Rules(unittest.TestCase):
             frame = oracle.build_data(fields, bytes(commands), bytes(payload), bytes(16), bytes(16), 255)
             self.assertEqual(len(frame), 255)
             longer = fields, bytes(commands), bytes(payload + 1), bytes(16), bytes(16), 255
-            self.assertEqual(number_of(oracle.build_data, *longer), 12)
+            self.assertEqual(refusal_of(oracle.build_data, *longer), (12, 0))
+
+
+class Places(unittest.TestCase):
+    """docs/RULES.md, Refusals: the place that each refusal of reading names, and the calls that hand it on."""
+
+    KEY = bytes(16)
+    JOIN_REQUEST, JOIN_ACCEPT, DATA = frame_of(0x00, 23), frame_of(0x20, 17), frame_of(0x40, 12, b5=0)
+
+    # Frames that reading refuses, with number and place.
+    REFUSED = [
+        *(((12, length), frame_of(0x40, length)) for length in (256, 257, 70000)),
+        *(((1, length), frame_of(0x43, 11)[:length]) for length in (0, 1, 11)),
+        *(((2, 0), frame_of(first, 23)) for first in (0x01, 0x22, 0x43, 0xE3)),
+        *(((3, 0), frame_of(first, 23)) for first in (0xC0, 0xFC)),
+        *(((4, length), frame_of(0x00, length)) for length in (12, 22, 24, 255)),
+        *(((4, length), frame_of(0x20, length)) for length in (12, 16, 18, 32, 34, 255)),
+        *(((4, 5), frame_of(first, 11 + n, b5=0xF0 + n)) for first in (0x40, 0x60, 0x80, 0xA0) for n in (1, 9, 15)),
+    ]
+
+    # Every call that reads first, with the type that it needs.
+    CALLS = [
+        (JOIN_REQUEST, lambda frame: oracle.test_mic_join_request(Places.KEY, frame)),
+        (JOIN_REQUEST, lambda frame: oracle.read_as(oracle.JoinRequest, frame)),
+        (JOIN_ACCEPT, lambda frame: oracle.read_as(oracle.JoinAccept, frame)),
+        (JOIN_ACCEPT, lambda frame: oracle.test_mic_clear_join_accept(Places.KEY, frame)),
+        (JOIN_ACCEPT, lambda frame: oracle.decrypt_join_accept(Places.KEY, frame)),
+        (JOIN_ACCEPT, lambda frame: oracle.decrypt_join_accept_checked(Places.KEY, frame)),
+        (JOIN_ACCEPT, lambda frame: oracle.session_keys(Places.KEY, bytes(2), frame)),
+        (DATA, lambda frame: oracle.test_mic_data(Places.KEY, 7, frame)),
+        (DATA, lambda frame: oracle.decrypt_data(None, None, 7, frame)),
+        (DATA, lambda frame: oracle.decrypt_data_checked(Places.KEY, None, 7, frame)),
+        (DATA, lambda frame: oracle.open_for_amendment(Places.KEY, Places.KEY, 7, frame)),
+        (DATA, lambda frame: oracle.amend_lent(Places.KEY, Places.KEY, 7, frame, [(300, 1)])),
+    ]
+
+    def test_each_row(self):
+        for refusal, frame in self.REFUSED:
+            self.assertEqual(refusal_of(oracle.read, frame), refusal)
+
+    def test_every_call_hands_it_on(self):
+        for refusal, frame in self.REFUSED:
+            self.assertEqual([refusal_of(call, frame) for _, call in self.CALLS], [refusal] * len(self.CALLS))
+            self.assertEqual(oracle.hold(self.KEY, self.KEY, 7, frame, [(0, 1)]), (refusal, [(15, 0)], b""))
+            self.assertEqual(oracle.amend_all(self.KEY, self.KEY, 7, frame, [(0, 1)]), (refusal, [(15, 0)], frame))
+
+    def test_another_type_has_no_place(self):
+        for needed, call in self.CALLS:
+            for frame in (self.JOIN_REQUEST, self.JOIN_ACCEPT, self.DATA):
+                self.assertEqual(refusal_of(call, frame) == (4, 0), frame != needed)
+
+    def test_no_other_refusal_has_a_place(self):
+        accept = frame_of(0x20, 17)
+        self.assertEqual(refusal_of(oracle.decrypt_join_accept_checked, self.KEY, accept), (5, 0))
+        self.assertEqual(refusal_of(oracle.decrypt_data, None, None, 0, self.DATA), (6, 0))
+        self.assertEqual(refusal_of(oracle.open_for_amendment, self.KEY, self.KEY, 0, self.DATA), (14, 0))
+        self.assertEqual(refusal_of(oracle.open_for_amendment, self.KEY, self.KEY, 0xEEEE, self.DATA), (5, 0))
+        self.assertEqual(refusal_of(oracle.take_out, self.DATA, 11), (7, 0))
+        self.assertEqual(refusal_of(oracle.build_join_request, bytes(8), bytes(8), bytes(2), self.KEY, 22), (7, 0))
+        for channels, room, number in (([0] * 6, 33, 8), ([0], 32, 7)):
+            call = bytes(3), bytes(3), bytes(4), 0, 0, channels, self.KEY, room
+            self.assertEqual(refusal_of(oracle.build_join_accept, *call), (number, 0))
+
+    def test_no_building_of_data_has_a_place(self):
+        rows = [(254, 0, 1, 0, 0, 7), (255, 1, 1, 0, 0, 13), (255, 0, 1, 16, 0, 9), (255, 0, 0, 0, 1, 10)]
+        rows += [(255, 0, None, 0, 1, 11), (255, 0, 1, 0, 243, 12)]
+        for room, fctrl, port, commands, payload, number in rows:
+            fields = oracle.DataFields(False, True, bytes(4), fctrl, 0, port)
+            call = fields, bytes(commands), bytes(payload), self.KEY, self.KEY, room
+            self.assertEqual(refusal_of(oracle.build_data, *call), (number, 0))
+
+
+class Answers(unittest.TestCase):
+    """The one form of a refusal in the answers, of every kind of call."""
+
+    def test_form(self):
+        self.assertEqual(records.ended(oracle.ACCEPTED), b"\0")
+        self.assertEqual(records.ended(oracle.Refusal(5, 0)), b"\5" + bytes(8))
+        self.assertEqual(records.ended(oracle.Refusal(12, 70000)), HEX("0c7011010000000000"))
+
+    def test_every_kind_that_reads_first(self):
+        building = {records.BUILD_JOIN_REQUEST, records.BUILD_JOIN_ACCEPT, records.BUILD_DATA}
+        source = generate.Source(1)
+        for refusal, frame in Places.REFUSED:
+            cases = list(generate.every_call_on(source, frame[:900]))
+            self.assertEqual({kind for kind, _ in cases}, records.KINDS.keys() - building)
+            due = records.ended(refusal_of(oracle.read, frame[:900]))
+            for body in generate.bodies_of(cases):
+                self.assertTrue(HEX(records.answer(body)).startswith(due))
 
 
 class Amended(unittest.TestCase):
@@ -134,7 +224,15 @@ class Amended(unittest.TestCase):
         fields = oracle.DataFields(True, False, b"addr", 0x10, 65537, 7)
         build = lambda payload: oracle.build_data(fields, b"ab", payload, network, application, 255)
         result = oracle.amend_all(network, application, 65537, build(b"hello"), [(0, 74), (5, 1), (4, 33), (4, 121)])
-        self.assertEqual(result, (0, [0, 15, 0, 0], build(b"Jelly")))
+        accepted, outside = oracle.ACCEPTED, (15, 0)
+        self.assertEqual(result, (accepted, [accepted, outside, accepted, accepted], build(b"Jelly")))
+
+    def test_lent_frame(self):
+        fields = oracle.DataFields(False, True, b"addr", 0, 7, 1)
+        keys = bytes(16), bytes([9] * 16)
+        build = lambda payload: oracle.build_data(fields, b"", payload, *keys, 255)
+        amended = oracle.amend_lent(*keys, 7, build(b"hello"), [(0, 74), (4, 33), (4, 121)])
+        self.assertEqual(amended, build(b"Jelly"))
 
 
 class HeldOpen(unittest.TestCase):
@@ -152,10 +250,13 @@ class HeldOpen(unittest.TestCase):
 
     def test_equals_a_fresh_build(self):
         calls = [(0, 74), [(4, 33), (4, 121)], (5, 1), [(1, 0), (5, 1)], [], [(3, 108), (2, 108)]]
-        self.assertEqual(self.hold(self.build(b"hello"), calls), (0, [0, 0, 15, 15, 0, 0], self.build(b"Jelly")))
+        accepted, outside = oracle.ACCEPTED, (15, 0)
+        due = [accepted, accepted, outside, outside, accepted, accepted]
+        self.assertEqual(self.hold(self.build(b"hello"), calls), (accepted, due, self.build(b"Jelly")))
 
     def test_refused_opening_holds_no_byte(self):
-        self.assertEqual(self.hold(b"", [(0, 1), [(0, 1)], []]), (1, [15, 15, 0], b""))
+        due = [(15, 0), (15, 0), oracle.ACCEPTED]
+        self.assertEqual(self.hold(b"eleven bytes"[:11], [(0, 1), [(0, 1)], []]), ((1, 11), due, b""))
         self.assertEqual(oracle.take_out(b"", 0), b"")
 
     def test_chain_values_lead_to_the_mic(self):
@@ -175,7 +276,7 @@ class HeldOpen(unittest.TestCase):
     def test_room(self):
         frame = self.build(b"hello")
         self.assertEqual(oracle.take_out(frame, len(frame)), frame)
-        self.assertEqual(number_of(oracle.take_out, frame, len(frame) - 1), 7)
+        self.assertEqual(refusal_of(oracle.take_out, frame, len(frame) - 1), (7, 0))
 
 
 class Files(unittest.TestCase):
