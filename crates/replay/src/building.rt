@@ -11,6 +11,7 @@ use crate::input::two_at;
 use crate::output::put;
 use crate::output::put_all;
 use crate::output::put_length;
+use crate::output::put_refusal;
 use base::storing::block_at;
 use base::storing::byte_at;
 use base::storing::four_at;
@@ -34,8 +35,8 @@ fn put_built(built: Built) {
             put_length(n);
         }
         Built::Refused(refusal) => {
-            put(refusal.number);
-            put_length(refusal.place);
+            put_refusal(refusal);
+            put_length(0);
         }
     }
 }

@@ -5,9 +5,9 @@ use crate::input::after;
 use crate::input::copy_numbers;
 use crate::input::length_at;
 use crate::input::number_at;
-use crate::output::put;
 use crate::output::put_all;
 use crate::output::put_length;
+use crate::output::put_refusal;
 use amend_held::calls::Taken;
 use amend_held::calls::amend_held;
 use amend_held::calls::amend_list_held;
@@ -20,15 +20,13 @@ use base::storing::byte_at;
 fn amend_one(record: &[u8], place: usize, buffer: &mut [u8; 868]) {
     let offset = number_at(record, place);
     let value = byte_at(record, after(place, 4));
-    let refusal = amend_held(buffer, offset as usize, value);
-    put(refusal.number);
+    put_refusal(amend_held(buffer, offset as usize, value));
 }
 
 // A list that fills its slice once it is read from the place given.
 fn amend_all(record: &[u8], list: &mut [u32], place: usize, buffer: &mut [u8; 868]) {
     copy_numbers(list, record, place);
-    let refusal = amend_list_held(buffer, list);
-    put(refusal.number);
+    put_refusal(amend_list_held(buffer, list));
 }
 
 // A list behind its count.
@@ -67,7 +65,7 @@ fn call_all(record: &[u8], count: usize, buffer: &mut [u8; 868]) {
 
 fn put_taken(taken: Taken) {
     let refusal = taken.refusal;
-    put(refusal.number);
+    put_refusal(refusal);
     put_length(taken.length);
 }
 
@@ -88,8 +86,7 @@ pub fn hold(record: &[u8], frame: &[u8]) {
     let app_skey = block_at(record, 17);
     let counter = number_at(record, 33);
     let mut buffer = [0u8; 868];
-    let refusal = open_into(frame, nwk_skey, app_skey, counter, &mut buffer);
-    put(refusal.number);
+    put_refusal(open_into(frame, nwk_skey, app_skey, counter, &mut buffer));
     let room = after(39, frame.len());
     call_all(record, after(room, 2), &mut buffer);
     take_out(record, room, &buffer);

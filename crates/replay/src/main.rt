@@ -22,6 +22,7 @@ fn answer(record: &[u8]) {
         11 => building::data(record),
         13 => reading::frame(record),
         14 => reading::clear_accept(record),
+        16 => reading::request(record),
         _ => opening::answer(record),
     }
 }

@@ -1,5 +1,6 @@
-// Kinds 1 to 8, 12 and 15: MIC tests, decryption, session keys, amendments, frames held open. Each has its frame behind
+// Kinds 1 to 8, 12, 15 and 17: MIC tests, decryption, session keys, amendments, frames held open. Each has its frame behind
 // arguments of a fixed length.
+use crate::amending::amend_lent;
 use crate::amending::open_and_amend;
 use crate::holding::hold;
 use crate::input::ROOM;
@@ -11,6 +12,7 @@ use crate::input::number_at;
 use crate::input::two_at;
 use crate::output::put;
 use crate::output::put_all;
+use crate::output::put_refusal;
 use base::storing::block_at;
 use base::storing::byte_at;
 use frame_opening::mic_tests::MicTest;
@@ -25,6 +27,7 @@ fn frame_place(kind: u8) -> usize {
         8 => 19,
         12 => 37,
         15 => 37,
+        17 => 37,
         _ => 17,
     }
 }
@@ -33,14 +36,17 @@ fn put_test(test: MicTest) {
     match test {
         MicTest::Passes => put_all(&[0, 1]),
         MicTest::Fails => put_all(&[0, 0]),
-        MicTest::Refused(refusal) => put_all(&[refusal.number, 0]),
+        MicTest::Refused(refusal) => {
+            put_refusal(refusal);
+            put(0);
+        }
     }
 }
 
 fn put_opening(opening: Opening) {
     match opening {
         Opening::Opened => put(0),
-        Opening::Refused(refusal) => put(refusal.number),
+        Opening::Refused(refusal) => put_refusal(refusal),
     }
 }
 
@@ -100,7 +106,7 @@ fn session_keys(record: &[u8], frame: &[u8]) {
     let nwk_skey = keys.nwk_skey;
     let app_skey = keys.app_skey;
     let refusal = keys.refusal;
-    put(refusal.number);
+    put_refusal(refusal);
     put_all(&nwk_skey);
     put_all(&app_skey);
 }
@@ -118,6 +124,7 @@ fn on_frame(record: &[u8], frame: &mut [u8], place: usize) {
         7 => decrypt_accept_checked(record, frame),
         12 => open_and_amend(record, frame),
         15 => hold(record, frame),
+        17 => amend_lent(record, frame),
         _ => session_keys(record, frame),
     }
 }

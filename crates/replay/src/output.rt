@@ -1,5 +1,6 @@
 // What an answer is written as: two digits to a byte, the numbers low byte first.
 use base::storing::byte_at;
+use frame::refusals::Refusal;
 use libc::STDOUT_FILENO;
 
 fn wide(b: u8) -> u64 {
@@ -47,4 +48,13 @@ pub fn put_number(n: u32) {
     put((n / 256 % 256) as u8);
     put((n / 65536 % 256) as u8);
     put((n / 16777216) as u8);
+}
+
+// How a call ended: the refusal's number and, where it is not 0, the whole place in eight bytes.
+pub fn put_refusal(refusal: Refusal) {
+    put(refusal.number);
+    if refusal.number != 0 {
+        put_number((refusal.place % 4294967296) as u32);
+        put_number((refusal.place / 4294967296) as u32);
+    }
 }

@@ -1,4 +1,4 @@
-// Kinds 13 and 14: what a frame holds, and what a clear join-accept says.
+// Kinds 13, 14 and 16: what a frame holds, what a clear join-accept says, and what a join-request does.
 use crate::input::ROOM;
 use crate::input::copy;
 use crate::input::length_at;
@@ -8,19 +8,21 @@ use crate::output::put_flag;
 use crate::output::put_length;
 use crate::output::put_number;
 use crate::output::put_place;
+use crate::output::put_refusal;
 use base::storing::four_at;
 use frame::fctrl::FCtrl;
 use frame::fctrl::is_uplink;
 use frame::join_fields::CfList;
 use frame::join_fields::JoinAcceptFields;
+use frame::join_fields::JoinRequestFields;
 use frame::join_fields::join_accept_fields;
 use frame::join_fields::join_request_fields;
 use frame::numbers::Values;
 use frame::numbers::values_of;
 use frame::parser::read;
+use frame::refusals::Refusal;
 
-fn put_request(frame: &[u8]) {
-    let fields = join_request_fields(frame);
+fn put_request(fields: JoinRequestFields) {
     let app_eui = fields.app_eui;
     let dev_eui = fields.dev_eui;
     let dev_nonce = fields.dev_nonce;
@@ -62,12 +64,15 @@ fn put_data(frame: &[u8], v: Values) {
 }
 
 fn put_reading(frame: &[u8], v: Values) {
-    put(v.number);
+    put_refusal(Refusal {
+        number: v.number,
+        place: v.place,
+    });
     let kind = v.kind;
     match kind {
         1 => {
             put(0);
-            put_request(frame);
+            put_request(join_request_fields(frame));
         }
         2 => {
             put(1);
@@ -139,7 +144,7 @@ fn read_clear(record: &[u8], frame: &mut [u8]) {
     copy(frame, record, 3);
     let fields = join_accept_fields(frame);
     let refusal = fields.refusal;
-    put(refusal.number);
+    put_refusal(refusal);
     if refusal.number == 0 {
         let mic = four_at(frame, mic_place(frame.len()));
         put_accept(fields, mic);
@@ -150,4 +155,20 @@ pub fn clear_accept(record: &[u8]) {
     let length = length_at(record, 1);
     let mut frame = [0u8; ROOM];
     read_clear(record, &mut frame[..length]);
+}
+
+fn read_request(record: &[u8], frame: &mut [u8]) {
+    copy(frame, record, 3);
+    let fields = join_request_fields(frame);
+    let refusal = fields.refusal;
+    put_refusal(refusal);
+    if refusal.number == 0 {
+        put_request(fields);
+    }
+}
+
+pub fn request(record: &[u8]) {
+    let length = length_at(record, 1);
+    let mut frame = [0u8; ROOM];
+    read_request(record, &mut frame[..length]);
 }
