@@ -10,14 +10,14 @@ use borrow.Author.Tests.{eqb-true}
 use Rattle.base.specs.Bytes.{pick}
 use Rattle.frame_security.specs.Mic.{sameBytes}
 use Rattle.frame_security.proofs.MicCompared.{same-of-test, test-of-same}
-use Rattle.frame.specs.Conditions.{IsData, Gives, of12, of1, of2, of3, of4}
+use Rattle.frame.specs.Conditions.{IsData}
 use Rattle.frame.specs.Layout.{fcnt, micOf}
 use Rattle.frame.specs.ReadingNumbers.{onData}
 use Rattle.frame.specs.Reading.{readOf}
 use Rattle.frame_security.specs.Security.{covered, dataMic}
 use Rattle.frame.specs.declared.parser.Reading.{Reading}
 use Rattle.frame.specs.declared.parser.Reading.the-variants.{JoinRequest, JoinAccept, Data, Refused}
-use Rattle.frame.proofs.ReadingLaws.{Says, answers}
+use Rattle.frame.proofs.ReadingLaws.{Says, answers, given-number}
 use Rattle.frame.specs.Refusals.{refused}
 use Rattle.amend.specs.declared.opening.Opened.{Opened}
 use Rattle.amend.specs.OpenFrame.{openedOf, refusedOpening, acceptedOpening, openChecked, openData, openOf}
@@ -35,13 +35,6 @@ both-passed : (a b : Bool) (x y z : Opened) → pick a (pick b x y) z .refusal .
 both-passed true true x y z e hy hz = (refl, refl)
 both-passed true false x y z e hy hz = absurd (hy e)
 both-passed false b x y z e hy hz = absurd (hz e)
-
-not-given : (f : List ℕ) (n : ℕ) → Gives f n → n ≡ 0 → ⊥
-not-given f n (of12 e g) z = omega arith
-not-given f n (of1 e g) z = omega arith
-not-given f n (of2 e g) z = omega arith
-not-given f n (of3 e g) z = omega arith
-not-given f n (of4 e g) z = omega arith
 
 module _ (f nwk app : List ℕ) (counter : ℕ) where
   pub accepted-opens : Accepted f nwk counter → openOf f nwk app counter ≡ acceptedOpening (openedOf f nwk app counter)
@@ -69,7 +62,7 @@ module _ (f nwk app : List ℕ) (counter : ℕ) where
   by-reading JoinRequest s e = let none : ⊥ = omega arith in absurd none
   by-reading (JoinAccept n) s e = let none : ⊥ = omega arith in absurd none
   by-reading (Data d) s e = data-passed (s .0) e
-  by-reading (Refused r) s e = absurd (not-given f (r .number) (s .0) e)
+  by-reading (Refused r) s e = absurd (omega (arith, given-number f r s, e))
 
   pub opens-accepted : openOf f nwk app counter .refusal .number ≡ 0 → Accepted f nwk counter
   unfolding openOf

@@ -14,7 +14,7 @@ use Rattle.base.proofs.Cases.{by-order}
 use Rattle.frame.specs.Layout.{mtype, fctrl, fcnt, fhdrLength, headerEnd}
 use Rattle.frame.specs.Reading.{portOf, payloadOf, dataOf, readOf}
 use Rattle.frame.specs.ReadingNumbers.{portGiven, portNumber, payloadKind, numberOf, placeOf}
-use Rattle.frame.specs.Conditions.{IsData, Gives, of12, of1, of2, of3, of4}
+use Rattle.frame.specs.Conditions.{IsData}
 use Rattle.frame.specs.PackedReading.{Bits, packed, nth, bitAt, Fit, payloadAt, bitsOfData, bitsOf, packedOf}
 use Rattle.frame.specs.declared.parser.FrmPayload.{FrmPayload}
 use Rattle.frame.specs.declared.parser.FrmPayload.the-variants.{Nothing, Data as PlainData, MacCommands}
@@ -22,7 +22,7 @@ use Rattle.frame.specs.declared.parser.DataFrame.{DataFrame}
 use Rattle.frame.specs.declared.parser.Reading.{Reading}
 use Rattle.frame.specs.declared.parser.Reading.the-variants.{JoinRequest, JoinAccept, Data, Refused}
 use Rattle.frame.proofs.ReadingSteps as steps
-use Rattle.frame.proofs.ReadingLaws.{Says, answers, reads-data}
+use Rattle.frame.proofs.ReadingLaws.{Says, answers, reads-data, given-number}
 use Rattle.frame.proofs.PackedLaws.{start}
 
 -- ---- the law
@@ -61,13 +61,6 @@ module _ (f : List ℕ) (b : AreBytes f) where
       let e : payloadAt (length f - 4) (payloadOf f) ≡ headerEnd f = start f (h .fits) in
       (omega arith, (omega arith, (bit-fits (portGiven (portOf f)), (kind-fits (payloadOf f), (omega arith, (port-fits, (omega arith, (omega arith, (omega arith, (omega arith, tt))))))))))
 
-  number-fits : (n : ℕ) → Gives f n → n < 256
-  number-fits n (of12 e g) = omega arith
-  number-fits n (of1 e g) = omega arith
-  number-fits n (of2 e g) = omega arith
-  number-fits n (of3 e g) = omega arith
-  number-fits n (of4 e g) = omega arith
-
   reading-fits : (r : Reading) → Says f r → Fit (bitsOf r)
   reading-fits JoinRequest s =
       (omega arith, (omega arith, (omega arith, (omega arith, (omega arith, (omega arith, (omega arith, (omega arith, (omega arith, (omega arith, tt))))))))))
@@ -75,7 +68,7 @@ module _ (f : List ℕ) (b : AreBytes f) where
       let l : n < 256 = ⊎-elim (λ q. omega arith) (λ q. omega arith) (s .either) in
       (omega arith, (omega arith, (omega arith, (omega arith, (omega arith, (omega arith, (omega arith, (omega arith, (omega arith, (omega arith, tt))))))))))
   reading-fits (Data d) s = subst (λ (x : DataFrame). Fit (bitsOfData x)) (sym (s .1)) (data-fits (s .0))
-  reading-fits (Refused r) s = (number-fits (r .number) (s .0), (omega arith, tt))
+  reading-fits (Refused r) s = (given-number f r s .1, (omega arith, tt))
 
   -- ---- every field of what reading answers, whatever it is
 
@@ -92,7 +85,7 @@ module _ (f : List ℕ) (b : AreBytes f) where
   number-of (JoinAccept n) s = omega arith
   number-of (Data d) s = omega arith
   number-of (Refused r) s =
-      let l = number-fits (r .number) (s .0) in
+      let l = given-number f r s .1 in
       omega arith
 
   pub number-back : packedOf (readOf f) % 256 ≡ numberOf (readOf f)

@@ -10,7 +10,7 @@ use Rattle.base.proofs.Cases.{by-order, by-equal}
 use Rattle.frame.specs.Layout.{mtype, fctrl, fcnt, fhdrLength, fport, headerEnd}
 use Rattle.frame.specs.Reading.{portOf, payloadOf, dataOf, readOf}
 use Rattle.frame.specs.Conditions.{IsData}
-use Rattle.frame.specs.PackedReading.{packed, accepted, bitsOfJoin, packedOf, payloadAt, portBits}
+use Rattle.frame.specs.PackedReading.{packed, accepted, bitsOfJoin, packedOf, numbered, payloadAt, portBits}
 use Rattle.frame.specs.declared.refusals.Refusal.{Refusal}
 use Rattle.frame.specs.declared.parser.Reading.{Reading}
 use Rattle.frame.specs.declared.parser.Reading.the-variants.{JoinRequest, JoinAccept, Data, Refused}
@@ -24,9 +24,10 @@ pub flat : (t g k p s m c n : ℕ)
     ≡ t * 256 + g * 2048 + k * 4096 + p * 65536 + s * 16777216 + m * 4294967296 + c * 1099511627776 + n * 281474976710656
 flat t g k p s m c n = omega arith
 
-pub flat-refused : (r : Refusal) → r .number + r .place % 72057594037927936 * 256 ≡ packedOf (Refused r)
-unfolding packedOf
-flat-refused r = omega arith
+-- a refused reading is its number with its place above it
+pub flat-refused : (r : Refusal) → numbered (r .number) (r .place) ≡ packedOf (Refused r)
+unfolding packedOf numbered
+flat-refused r = refl
 
 pub flat-join : (t n : ℕ) → t * 256 + (n - 4) * 4311744512 ≡ packed (bitsOfJoin t n)
 flat-join t n = omega arith

@@ -9,8 +9,9 @@ use native.Mathlib.Omega.{arith}
 use lib.ListN.{length}
 use Rattle.base.proofs.Cases.{by-order, by-equal}
 use Rattle.frame.specs.Layout.{mtype, major, fhdrLength}
+use Rattle.frame.specs.Faults.{Fault, too-long, too-short, version, type, join-length, header, numberOfFault}
 use Rattle.frame.specs.Reading.{refuse, dataOf, readOf}
-use Rattle.frame.specs.Conditions.{IsJoinRequest, IsJoinAccept, IsData, WrongLength, request, accept, header, Gives12, Gives1, Gives2, Gives3, Gives4, Gives, of12, of1, of2, of3, of4}
+use Rattle.frame.specs.Conditions.{IsJoinRequest, IsJoinAccept, IsData, WrongJoinLength, request, accept, Gives12, Gives1, Gives2, Gives3, Gives4Join, Gives4Header, Found, Gives}
 use Rattle.frame.specs.declared.refusals.Refusal.{Refusal}
 use Rattle.frame.specs.declared.parser.DataFrame.{DataFrame}
 use Rattle.frame.specs.declared.parser.Reading.{Reading}
@@ -19,25 +20,20 @@ use Rattle.frame.proofs.ReadingSteps as steps
 
 -- ---- from the frame to its answer
 
-pub reads-12 : (f : List ℕ) → Gives12 f → readOf f ≡ refuse 12
-reads-12 f h = steps.too-long f (h .long)
+wrong-join : (f : List ℕ) → 12 ≤ length f → length f ≤ 255 → major f ≡ 0 → WrongJoinLength f → readOf f ≡ refuse join-length f
+wrong-join f h k v (request t n) = steps.by-type f h k v ∙ steps.type-request f t ∙ steps.request-wrong f n
+wrong-join f h k v (accept t n m) = steps.by-type f h k v ∙ steps.type-accept f t ∙ steps.accept-wrong f n m
 
-pub reads-1 : (f : List ℕ) → Gives1 f → readOf f ≡ refuse 1
-reads-1 f h = steps.too-short f (h .short)
-
-pub reads-2 : (f : List ℕ) → Gives2 f → readOf f ≡ refuse 2
-reads-2 f h = steps.other-version f (h .not-1) (h .not-12) (h .other)
-
-pub reads-3 : (f : List ℕ) → Gives3 f → readOf f ≡ refuse 3
-reads-3 f h = steps.by-type f (h .not-1) (h .not-12) (h .not-2) ∙ steps.type-other f (h .other)
-
-wrong-length : (f : List ℕ) → 12 ≤ length f → length f ≤ 255 → major f ≡ 0 → WrongLength f → readOf f ≡ refuse 4
-wrong-length f h k v (request t n) = steps.by-type f h k v ∙ steps.type-request f t ∙ steps.request-wrong f n
-wrong-length f h k v (accept t n m) = steps.by-type f h k v ∙ steps.type-accept f t ∙ steps.accept-wrong f n m
-wrong-length f h k v (header t u n) = steps.by-type f h k v ∙ steps.type-data f t u ∙ steps.data-wrong f n
-
-pub reads-4 : (f : List ℕ) → Gives4 f → readOf f ≡ refuse 4
-reads-4 f h = wrong-length f (h .not-1) (h .not-12) (h .not-2) (h .wrong)
+pub reads-fault : (f : List ℕ) (x : Fault) → Found x f → readOf f ≡ refuse x f
+reads-fault f too-long h = steps.too-long f (h .long)
+reads-fault f too-short h = steps.too-short f (h .short)
+reads-fault f version h = steps.other-version f (h .not-1) (h .not-12) (h .other)
+reads-fault f type h = steps.by-type f (h .not-1) (h .not-12) (h .not-2) ∙ steps.type-other f (h .other)
+reads-fault f join-length h = wrong-join f (h .not-1) (h .not-12) (h .not-2) (h .wrong)
+reads-fault f header h =
+    steps.by-type f (h .not-1) (h .not-12) (h .not-2)
+    ∙ steps.type-data f (h .data-frame) (h .not-3)
+    ∙ steps.data-wrong f (h .short)
 
 pub reads-request : (f : List ℕ) → IsJoinRequest f → readOf f ≡ JoinRequest
 reads-request f h =
@@ -71,17 +67,19 @@ abbrev pub Says : List ℕ → Reading → Type 0
 Says f JoinRequest = IsJoinRequest f
 Says f (JoinAccept n) = IsJoinAccept f n
 Says f (Data d) = IsData f × (d ≡ dataOf f)
-Says f (Refused r) = Gives f (r .number) × (r .place ≡ 0)
+Says f (Refused r) = Gives f r
 
 -- an answer that is given where what it says holds
 given : (f : List ℕ) (r : Reading) → readOf f ≡ r → Says f r → Says f (readOf f)
 given f r e h = subst (λ (x : Reading). Says f x) (sym e) h
 
+-- a fault that is found is answered
+faulty : (f : List ℕ) (x : Fault) → Found x f → Says f (readOf f)
+faulty f x h = given f (refuse x f) (reads-fault f x h) (record { fault = x; found = h; is = refl })
+
 module _ (f : List ℕ) (l : 12 ≤ length f) (m : length f ≤ 255) (v : major f ≡ 0) where
-  wrong : mtype f < 6 → WrongLength f → Says f (readOf f)
-  wrong t w =
-      let g : Gives4 f = record { not-12 = m; not-1 = l; not-2 = v; not-3 = t; wrong = w } in
-      given f (refuse 4) (reads-4 f g) (of4 refl g, refl)
+  wrong : WrongJoinLength f → Says f (readOf f)
+  wrong w = faulty f join-length (record { not-12 = m; not-1 = l; not-2 = v; wrong = w })
 
   answer-request : mtype f ≡ 0 → Says f (readOf f)
   answer-request t =
@@ -89,7 +87,7 @@ module _ (f : List ℕ) (l : 12 ≤ length f) (m : length f ≤ 255) (v : major 
       (λ e.
       let g : IsJoinRequest f = record { version = v; type = t; long = e } in
       given f JoinRequest (reads-request f g) g)
-      (λ n. wrong (omega arith) (request t n))
+      (λ n. wrong (request t n))
 
   answer-accept : mtype f ≡ 1 → Says f (readOf f)
   answer-accept t =
@@ -102,7 +100,7 @@ module _ (f : List ℕ) (l : 12 ≤ length f) (m : length f ≤ 255) (v : major 
       (λ e.
       let g : IsJoinAccept f 33 = record { version = v; type = t; long = e; either = inr refl } in
       given f (JoinAccept 33) (reads-accept f 33 g) g)
-      (λ k. wrong (omega arith) (accept t n k)))
+      (λ k. wrong (accept t n k)))
 
   answer-data : 2 ≤ mtype f → mtype f < 6 → Says f (readOf f)
   answer-data t u =
@@ -110,14 +108,11 @@ module _ (f : List ℕ) (l : 12 ≤ length f) (m : length f ≤ 255) (v : major 
       (λ h.
       let g : IsData f = record { least = l; most = m; version = v; from = t; below = u; fits = h } in
       given f (Data (dataOf f)) (reads-data f g) (g, refl))
-      (λ h. wrong u (header t u h))
+      (λ h. faulty f header (record { not-12 = m; not-1 = l; not-2 = v; not-3 = u; data-frame = t; short = h }))
 
   answer-type : Says f (readOf f)
   answer-type =
-      by-order 6 (mtype f)
-      (λ h.
-      let g : Gives3 f = record { not-12 = m; not-1 = l; not-2 = v; other = h } in
-      given f (refuse 3) (reads-3 f g) (of3 refl g, refl))
+      by-order 6 (mtype f) (λ h. faulty f type (record { not-12 = m; not-1 = l; not-2 = v; other = h }))
       (λ u.
       by-equal (mtype f) 0 answer-request
       (λ z. by-equal (mtype f) 1 answer-accept (λ o. answer-data (omega arith) u)))
@@ -128,16 +123,9 @@ answers f =
     (λ m.
     by-order 12 (length f)
     (λ l.
-    by-equal (major f) 0 (answer-type f l m)
-    (λ n.
-    let g : Gives2 f = record { not-12 = m; not-1 = l; other = n } in
-    given f (refuse 2) (reads-2 f g) (of2 refl g, refl)))
-    (λ s.
-    let g : Gives1 f = record { not-12 = m; short = s } in
-    given f (refuse 1) (reads-1 f g) (of1 refl g, refl)))
-    (λ h.
-    let g : Gives12 f = record { long = h } in
-    given f (refuse 12) (reads-12 f g) (of12 refl g, refl))
+    by-equal (major f) 0 (answer-type f l m) (λ n. faulty f version (record { not-12 = m; not-1 = l; other = n })))
+    (λ s. faulty f too-short (record { not-12 = m; short = s })))
+    (λ h. faulty f too-long (record { long = h }))
 
 pub said : (f : List ℕ) {r : Reading} → readOf f ≡ r → Says f r
 said f e = subst (λ (x : Reading). Says f x) e (answers f)
@@ -154,9 +142,19 @@ data-read f e = said f e .0
 pub data-fields : (f : List ℕ) {d : DataFrame} → readOf f ≡ Data d → d ≡ dataOf f
 data-fields f e = said f e .1
 
-pub refusal-read : (f : List ℕ) {r : Refusal} → readOf f ≡ Refused r → Gives f (r .number)
-refusal-read f e = said f e .0
+pub refusal-read : (f : List ℕ) {r : Refusal} → readOf f ≡ Refused r → Gives f r
+refusal-read f e = said f e
 
--- the place of a refusal is 0
-pub refusal-place : (f : List ℕ) {r : Refusal} → readOf f ≡ Refused r → r .place ≡ 0
-refusal-place f e = said f e .1
+-- ---- the numbers of reading's refusals
+
+-- each is of a fault, and so between 1 and 255
+pub fault-number : (x : Fault) → (0 < numberOfFault x) × (numberOfFault x < 256)
+fault-number too-long = (omega arith, omega arith)
+fault-number too-short = (omega arith, omega arith)
+fault-number version = (omega arith, omega arith)
+fault-number type = (omega arith, omega arith)
+fault-number join-length = (omega arith, omega arith)
+fault-number header = (omega arith, omega arith)
+
+pub given-number : (f : List ℕ) (r : Refusal) → Gives f r → (0 < r .number) × (r .number < 256)
+given-number f r g = rw (g .is) (fault-number (g .fault))

@@ -7,6 +7,7 @@ use Prim.Native.Nat.{ℕ, _+_, _-_, _≤_, _<_}
 use native.Mathlib.Omega.{arith}
 use lib.ListN.{length}
 use borrow.Author.Tests.{lt-ltb, le-ltb, le-leb, lt-leb, eq-eqb, ne-eqb}
+use Rattle.frame.specs.Faults as fault
 use Rattle.frame.specs.Layout.{mtype, major, fhdrLength, fport, payloadStart, payloadEnd}
 use Rattle.frame.specs.Reading.{refuse, portOf, payloadOf, dataOf, readJoinRequest, readJoinAccept, readData, readType, readOf}
 use Rattle.frame.specs.declared.parser.FPort.the-variants.{Absent, Port}
@@ -55,7 +56,7 @@ module _ (f : List ℕ) where
   unfolding readJoinRequest
   request-right e = simp (eq-eqb _ _ e)
 
-  pub request-wrong : (length f ≡ 23 → ⊥) → readJoinRequest f ≡ refuse 4
+  pub request-wrong : (length f ≡ 23 → ⊥) → readJoinRequest f ≡ refuse fault.join-length f
   unfolding readJoinRequest
   request-wrong n = simp (ne-eqb _ _ n)
 
@@ -69,7 +70,7 @@ module _ (f : List ℕ) where
       let n : length f ≡ 17 → ⊥ = λ q. omega arith in
       simp (ne-eqb _ _ n, eq-eqb _ _ e)
 
-  pub accept-wrong : (length f ≡ 17 → ⊥) → (length f ≡ 33 → ⊥) → readJoinAccept f ≡ refuse 4
+  pub accept-wrong : (length f ≡ 17 → ⊥) → (length f ≡ 33 → ⊥) → readJoinAccept f ≡ refuse fault.join-length f
   unfolding readJoinAccept
   accept-wrong n m = simp (ne-eqb _ _ n, ne-eqb _ _ m)
 
@@ -77,7 +78,7 @@ module _ (f : List ℕ) where
   unfolding readData
   data-right h = simp (le-leb _ _ h)
 
-  pub data-wrong : length f < 5 + fhdrLength f → readData f ≡ refuse 4
+  pub data-wrong : length f < 5 + fhdrLength f → readData f ≡ refuse fault.header f
   unfolding readData
   data-wrong h = simp (lt-leb _ _ h)
 
@@ -98,7 +99,7 @@ module _ (f : List ℕ) where
       let m : mtype f ≡ 1 → ⊥ = λ q. omega arith in
       simp (ne-eqb _ _ n, ne-eqb _ _ m, lt-ltb _ _ k)
 
-  pub type-other : 6 ≤ mtype f → readType f ≡ refuse 3
+  pub type-other : 6 ≤ mtype f → readType f ≡ refuse fault.type f
   unfolding readType
   type-other h =
       let n : mtype f ≡ 0 → ⊥ = λ q. omega arith in
@@ -107,17 +108,17 @@ module _ (f : List ℕ) where
 
   -- ---- of any frame
 
-  pub too-long : 255 < length f → readOf f ≡ refuse 12
+  pub too-long : 255 < length f → readOf f ≡ refuse fault.too-long f
   unfolding readOf
   too-long h = simp (lt-ltb _ _ h)
 
-  pub too-short : length f < 12 → readOf f ≡ refuse 1
+  pub too-short : length f < 12 → readOf f ≡ refuse fault.too-short f
   unfolding readOf
   too-short h =
       let k : length f ≤ 255 = omega arith in
       simp (le-ltb _ _ k, lt-ltb _ _ h)
 
-  pub other-version : 12 ≤ length f → length f ≤ 255 → (major f ≡ 0 → ⊥) → readOf f ≡ refuse 2
+  pub other-version : 12 ≤ length f → length f ≤ 255 → (major f ≡ 0 → ⊥) → readOf f ≡ refuse fault.version f
   unfolding readOf
   other-version h k n = simp (le-ltb _ _ k, le-ltb _ _ h, ne-eqb _ _ n)
 

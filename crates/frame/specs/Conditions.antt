@@ -6,7 +6,9 @@ use mathlib.Core.List.{List}
 use mathlib.Core.Logic.{_⊎_}
 use Prim.Native.Nat.{ℕ, _+_, _≤_, _<_}
 use lib.ListN.{length}
+use Rattle.frame.specs.Faults.{Fault, too-long, too-short, version, type, join-length, header, faultRefusal}
 use Rattle.frame.specs.Layout.{mtype, major, fhdrLength}
+use Rattle.frame.specs.declared.refusals.Refusal.{Refusal}
 
 -- ---- what is accepted
 
@@ -32,11 +34,10 @@ pub record IsData (f : List ℕ) : Type 0 where
 
 -- ---- what is refused
 
--- a length that is wrong for the type
-pub data WrongLength (f : List ℕ) : Type 0 where
-  request : mtype f ≡ 0 → (length f ≡ 23 → ⊥) → WrongLength f
-  accept : mtype f ≡ 1 → (length f ≡ 17 → ⊥) → (length f ≡ 33 → ⊥) → WrongLength f
-  header : 2 ≤ mtype f → mtype f < 6 → length f < 5 + fhdrLength f → WrongLength f
+-- a join message of a length that its type does not allow
+pub data WrongJoinLength (f : List ℕ) : Type 0 where
+  request : mtype f ≡ 0 → (length f ≡ 23 → ⊥) → WrongJoinLength f
+  accept : mtype f ≡ 1 → (length f ≡ 17 → ⊥) → (length f ≡ 33 → ⊥) → WrongJoinLength f
 
 pub record Gives12 (f : List ℕ) : Type 0 where
   pub long : 255 < length f
@@ -56,12 +57,34 @@ pub record Gives3 (f : List ℕ) : Type 0 where
   pub not-2 : major f ≡ 0
   pub other : 6 ≤ mtype f
 
-pub record Gives4 (f : List ℕ) : Type 0 where
+pub record Gives4Join (f : List ℕ) : Type 0 where
+  pub not-12 : length f ≤ 255
+  pub not-1 : 12 ≤ length f
+  pub not-2 : major f ≡ 0
+  pub wrong : WrongJoinLength f
+
+pub record Gives4Header (f : List ℕ) : Type 0 where
   pub not-12 : length f ≤ 255
   pub not-1 : 12 ≤ length f
   pub not-2 : major f ≡ 0
   pub not-3 : mtype f < 6
-  pub wrong : WrongLength f
+  pub data-frame : 2 ≤ mtype f
+  pub short : length f < 5 + fhdrLength f
+
+-- the fault is the one that is found in f
+abbrev pub Found : Fault → List ℕ → Type 0
+Found too-long f = Gives12 f
+Found too-short f = Gives1 f
+Found version f = Gives2 f
+Found type f = Gives3 f
+Found join-length f = Gives4Join f
+Found header f = Gives4Header f
+
+-- the refusal r, number and place, is given: it is that of the fault which is found
+pub record Gives (f : List ℕ) (r : Refusal) : Type 0 where
+  pub fault : Fault
+  pub found : Found fault f
+  pub is : r ≡ faultRefusal fault f
 
 -- accepted: no condition holds
 pub record Passes (f : List ℕ) : Type 0 where
@@ -69,12 +92,5 @@ pub record Passes (f : List ℕ) : Type 0 where
   pub not-1 : 12 ≤ length f
   pub not-2 : major f ≡ 0
   pub not-3 : mtype f < 6
-  pub not-4 : WrongLength f → ⊥
-
--- number n is given, at place 0
-pub data Gives (f : List ℕ) (n : ℕ) : Type 0 where
-  of12 : n ≡ 12 → Gives12 f → Gives f n
-  of1 : n ≡ 1 → Gives1 f → Gives f n
-  of2 : n ≡ 2 → Gives2 f → Gives f n
-  of3 : n ≡ 3 → Gives3 f → Gives f n
-  of4 : n ≡ 4 → Gives4 f → Gives f n
+  pub not-join : WrongJoinLength f → ⊥
+  pub not-header : 2 ≤ mtype f → 5 + fhdrLength f ≤ length f

@@ -44,6 +44,15 @@ abbrev pub Fit : List Bits → Type 0
 Fit [] = Unit {0}
 Fit (b ∷ bs) = (b .value < 2 ^ b .wide) × Fit bs
 
+-- ---- a number with a value above it
+
+-- what is left of 64 bits are 56, so that the value counts modulo 2 ^ 56
+abbrev pub numberedBits : ℕ → ℕ → List Bits
+numberedBits number value = bits 8 number ∷ bits 56 (value % 2 ^ 56) ∷ []
+
+unfoldable pub numbered : ℕ → ℕ → ℕ
+numbered number value = packed (numberedBits number value)
+
 -- ---- a reading
 
 -- the place of the payload's first byte, which is that of the MIC where there is no payload
@@ -73,7 +82,7 @@ abbrev pub bitsOf : Reading → List Bits
 bitsOf JoinRequest = bitsOfJoin 0 23
 bitsOf (JoinAccept n) = bitsOfJoin 1 n
 bitsOf (Data d) = bitsOfData d
-bitsOf (Refused r) = bits 8 (r .number) ∷ bits 56 (r .place % 2 ^ 56) ∷ []
+bitsOf (Refused r) = numberedBits (r .number) (r .place)
 
 unfoldable pub packedOf : Reading → ℕ
 packedOf r = packed (bitsOf r)

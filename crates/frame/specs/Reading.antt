@@ -1,4 +1,4 @@
--- What reading gives, from docs/RULES.md, Reading and Refusals: the refusals in the order 12, 1, 2, 3, 4,
+-- What reading gives, from docs/RULES.md, Reading and Refusals: the refusals in the order 12, 1, 2, 3, 4, each with its place,
 -- and the fields of what is accepted.
 -- Assumes nothing.
 use mathlib.Core.List.{List}
@@ -6,7 +6,7 @@ use Prim.Native.Nat.{ℕ, _+_, _-_}
 use lib.Dec.{ltb, eqb}
 use lib.ListN.{length}
 use Rattle.base.specs.Bytes.{pick}
-use Rattle.frame.specs.Refusals.{refused}
+use Rattle.frame.specs.Faults.{Fault, too-long, too-short, version, type, join-length, header, faultRefusal}
 use Rattle.frame.specs.Layout.{mtype, major, fctrl, fcnt, fhdrLength, fitsHeader, hasPort, fport, payloadStart, payloadEnd}
 use Rattle.frame.specs.declared.parser.FPort.{FPort}
 use Rattle.frame.specs.declared.parser.FPort.the-variants.{Absent, Port}
@@ -16,9 +16,9 @@ use Rattle.frame.specs.declared.parser.DataFrame.{DataFrame}
 use Rattle.frame.specs.declared.parser.Reading.{Reading}
 use Rattle.frame.specs.declared.parser.Reading.the-variants.{JoinRequest, JoinAccept, Data, Refused}
 
--- a refusal by its number; its place is 0
-abbrev pub refuse : ℕ → Reading
-refuse n = Refused (refused n)
+-- a frame is refused for a fault, by its number and at its place
+abbrev pub refuse : Fault → List ℕ → Reading
+refuse x f = Refused (faultRefusal x f)
 
 unfoldable pub portOf : List ℕ → FPort
 portOf f = pick (hasPort f) (Port (fport f)) Absent
@@ -45,20 +45,20 @@ dataOf f =
 
 -- by the type, of a frame that is long enough and of the right version
 unfoldable pub readJoinRequest : List ℕ → Reading
-readJoinRequest f = pick (eqb (length f) 23) JoinRequest (refuse 4)
+readJoinRequest f = pick (eqb (length f) 23) JoinRequest (refuse join-length f)
 
 unfoldable pub readJoinAccept : List ℕ → Reading
-readJoinAccept f = pick (eqb (length f) 17) (JoinAccept 17) (pick (eqb (length f) 33) (JoinAccept 33) (refuse 4))
+readJoinAccept f = pick (eqb (length f) 17) (JoinAccept 17) (pick (eqb (length f) 33) (JoinAccept 33) (refuse join-length f))
 
 unfoldable pub readData : List ℕ → Reading
-readData f = pick (fitsHeader f) (Data (dataOf f)) (refuse 4)
+readData f = pick (fitsHeader f) (Data (dataOf f)) (refuse header f)
 
 unfoldable pub readType : List ℕ → Reading
 readType f =
     pick (eqb (mtype f) 0) (readJoinRequest f)
-    (pick (eqb (mtype f) 1) (readJoinAccept f) (pick (ltb (mtype f) 6) (readData f) (refuse 3)))
+    (pick (eqb (mtype f) 1) (readJoinAccept f) (pick (ltb (mtype f) 6) (readData f) (refuse type f)))
 
 unfoldable pub readOf : List ℕ → Reading
 readOf f =
-    pick (ltb 255 (length f)) (refuse 12)
-    (pick (ltb (length f) 12) (refuse 1) (pick (eqb (major f) 0) (readType f) (refuse 2)))
+    pick (ltb 255 (length f)) (refuse too-long f)
+    (pick (ltb (length f) 12) (refuse too-short f) (pick (eqb (major f) 0) (readType f) (refuse version f)))

@@ -5,8 +5,7 @@ ghost use lib.ListN.{length};
 ghost use Rattle.frame.specs.Conditions.{IsData};
 ghost use Rattle.frame.specs.Layout.{fhdrLength};
 ghost use Rattle.frame.specs.Reading.{readOf};
-ghost use Rattle.frame.specs.PackedReading.{packed, bitsOfJoin, packedOf, portBits};
-ghost use Rattle.frame.specs.declared.parser.Reading.the-variants.{Refused};
+ghost use Rattle.frame.specs.PackedReading.{packed, bitsOfJoin, packedOf, numbered, portBits};
 use crate::packet_length::FCNT_AT;
 use crate::packet_length::FCTRL_AT;
 use crate::packet_length::JOIN_REQUEST_LEN;
@@ -17,10 +16,9 @@ use crate::parser::Reading;
 use crate::parser::fhdr_length;
 use crate::parser::read;
 use crate::parser::read_fcnt;
-use crate::refusals::Refusal;
 
 // One in each field, by the bit that it begins at.
-const PLACE: u64 = 256;
+const VALUE: u64 = 256;
 
 const TYPE: u64 = 256;
 
@@ -38,8 +36,8 @@ const FCTRL: u64 = 1099511627776;
 
 const FCNT: u64 = 281474976710656;
 
-// So far a place counts: 56 bits.
-const PLACES: u64 = 72057594037927936;
+// So far a value above a number counts: 56 bits.
+const VALUES: u64 = 72057594037927936;
 
 // Where a port byte is there: nothing behind it, data, or commands. The payload begins a byte after FOpts.
 const EMPTY: u64 = PAYLOAD_KIND + PAYLOAD_AT;
@@ -48,11 +46,12 @@ const DATA: u64 = PORT_GIVEN + PAYLOAD_KIND + PAYLOAD_AT;
 
 const COMMANDS: u64 = PORT_GIVEN + 2 * PAYLOAD_KIND + PAYLOAD_AT;
 
-// A refusal: its number, and above it the place.
-fn refused_bits(refusal: Refusal) -> u64
-    ensures { λ r. ⌜ r ≡ packedOf (Refused refusal) ⌝ }
+// A number in the low byte, and above it a value: the place of a refusal, or the length of a frame. Past 2^56 the value's high
+// bits are lost.
+pub fn numbered_bits(number: u8, value: usize) -> u64
+    ensures { λ r. ⌜ r ≡ numbered number value ⌝ }
 {
-    (refusal.number as u64) + (refusal.place as u64) % PLACES * PLACE
+    (number as u64) + (value as u64) % VALUES * VALUE
 }
 
 // A join message: its type, and the place of its MIC, which stands for that of the payload too.
@@ -75,7 +74,7 @@ fn other_bits(frame: &[u8]) -> u64
         Reading::JoinRequest => join_bits(0, JOIN_REQUEST_LEN),
         Reading::JoinAccept(n) => join_bits(1, n),
         Reading::Data(_) => 0,
-        Reading::Refused(refusal) => refused_bits(refusal),
+        Reading::Refused(refusal) => numbered_bits(refusal.number, refusal.place),
     }
 }
 

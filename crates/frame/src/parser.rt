@@ -2,7 +2,9 @@
 ghost use mathlib.Core.Path.{_≡_};
 ghost use Prim.Native.Nat.{_+_, _*_, _%_, _≤_};
 ghost use lib.ListN.{length};
+ghost use Rattle.frame.specs.Refusals.{refusal};
 ghost use Rattle.frame.specs.Reading.{portOf, payloadOf, readJoinRequest, readJoinAccept, readData, readType, readOf};
+ghost use Rattle.frame.specs.declared.parser.Reading.the-variants.{Refused};
 use crate::fctrl::message_type;
 use crate::packet_length::FCNT_AT;
 use crate::packet_length::FCTRL_AT;
@@ -101,6 +103,12 @@ fn read_payload(frame: &[u8]) -> FrmPayload
     FrmPayload::Data(start, end)
 }
 
+fn refused(number: u8, place: usize) -> Reading
+    ensures { λ r. ⌜ r ≡ Refused (refusal number place) ⌝ }
+{
+    Reading::Refused(Refusal { number, place })
+}
+
 // By the type, of a frame that is long enough for the smallest.
 fn read_join_request(frame: &[u8]) -> Reading
     ensures { λ r. ⌜ r ≡ readJoinRequest (now (frame .entry)) ⌝ }
@@ -108,25 +116,20 @@ fn read_join_request(frame: &[u8]) -> Reading
     if frame.len() == JOIN_REQUEST_LEN {
         return Reading::JoinRequest;
     }
-    Reading::Refused(Refusal {
-        number: INVALID_DATA,
-        place: 0,
-    })
+    refused(INVALID_DATA, frame.len())
 }
 
 fn read_join_accept(frame: &[u8]) -> Reading
     ensures { λ r. ⌜ r ≡ readJoinAccept (now (frame .entry)) ⌝ }
 {
-    if frame.len() == JOIN_ACCEPT_LEN {
+    let n = frame.len();
+    if n == JOIN_ACCEPT_LEN {
         return Reading::JoinAccept(JOIN_ACCEPT_LEN);
     }
-    if frame.len() == JOIN_ACCEPT_WITH_CFLIST_LEN {
+    if n == JOIN_ACCEPT_WITH_CFLIST_LEN {
         return Reading::JoinAccept(JOIN_ACCEPT_WITH_CFLIST_LEN);
     }
-    Reading::Refused(Refusal {
-        number: INVALID_DATA,
-        place: 0,
-    })
+    refused(INVALID_DATA, n)
 }
 
 fn read_data(frame: &[u8]) -> Reading
@@ -135,10 +138,7 @@ fn read_data(frame: &[u8]) -> Reading
 {
     let h = fhdr_length(frame[FCTRL_AT]);
     if frame.len() < 5 + h {
-        return Reading::Refused(Refusal {
-            number: INVALID_DATA,
-            place: 0,
-        });
+        return refused(INVALID_DATA, FCTRL_AT);
     }
     let port = read_port(frame);
     let payload = read_payload(frame);
@@ -169,34 +169,22 @@ fn read_type(frame: &[u8]) -> Reading
     if mtype < 6 {
         return read_data(frame);
     }
-    Reading::Refused(Refusal {
-        number: INVALID_MESSAGE_TYPE,
-        place: 0,
-    })
+    refused(INVALID_MESSAGE_TYPE, 0)
 }
 
-// Reading a frame: the first refusal that applies, of 12, 1, 2, 3 and 4, or what the frame holds. Bits 2 to 4 of byte
-// 0 count for nothing.
+// Reading a frame: the first refusal that applies, of 12, 1, 2, 3 and 4, at the index of the byte whose rule failed, or what
+// the frame holds. Bits 2 to 4 of byte 0 count for nothing.
 pub fn read(frame: &[u8]) -> Reading
     ensures { λ r. ⌜ r ≡ readOf (now (frame .entry)) ⌝ }
 {
     if PHY_PAYLOAD_MAX_LEN < frame.len() {
-        return Reading::Refused(Refusal {
-            number: FRAME_TOO_LONG,
-            place: 0,
-        });
+        return refused(FRAME_TOO_LONG, frame.len());
     }
     if frame.len() < PHY_PAYLOAD_MIN_LEN {
-        return Reading::Refused(Refusal {
-            number: INVALID_PAYLOAD,
-            place: 0,
-        });
+        return refused(INVALID_PAYLOAD, frame.len());
     }
     if frame[0] % 4 == 0 {
         return read_type(frame);
     }
-    Reading::Refused(Refusal {
-        number: UNSUPPORTED_MAJOR_VERSION,
-        place: 0,
-    })
+    refused(UNSUPPORTED_MAJOR_VERSION, 0)
 }

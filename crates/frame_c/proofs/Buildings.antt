@@ -15,7 +15,8 @@ use Rattle.frame_build.specs.DataFrames.{builtOf, outOf, Builds as BuildsFrame}
 use Rattle.frame_build.specs.declared.creator.Built.{Built}
 use Rattle.frame_build.specs.declared.creator.Built.the-variants.{Frame, Refused}
 use Rattle.frame_build.specs.declared.creator.data_frame.DataParts.{DataParts}
-use Rattle.frame_c.specs.CAnswers.{cAnswer, builtAnswer, BuildsInC}
+use Rattle.frame.specs.PackedReading.{numbered}
+use Rattle.frame_c.specs.CAnswers.{builtAnswer, BuildsInC}
 use Rattle.frame_c.specs.CGiven.{dataRefused}
 
 -- what was built of equal parts
@@ -30,7 +31,7 @@ made {n} {m} {f} {g} {l} {e} {b} {r} p q s a =
     }
 
 -- a refusal by a number that is not 0, which changes nothing
-pub refused-kind : (k : ℕ) {n : ℕ} {f l : List ℕ} {r : ℕ} → eqb k 0 ≡ false → n ≡ k → r ≡ cAnswer k 0 → BuildsInC n f l r l
+pub refused-kind : (k : ℕ) {n : ℕ} {f l : List ℕ} {r : ℕ} → eqb k 0 ≡ false → n ≡ k → r ≡ numbered k 0 → BuildsInC n f l r l
 refused-kind k {n} {f} {l} {r} z q a =
     record {
       answer =

@@ -14,7 +14,8 @@ use Rattle.base.proofs.Cases.{by-order, by-equal}
 use Rattle.base.specs.Storing.{Put}
 use Rattle.base.proofs.Put.{put-front}
 use Rattle.frame_build.specs.DataFrames.{outOf}
-use Rattle.frame_c.specs.CAnswers.{cAnswer, orShort, Fills}
+use Rattle.frame.specs.PackedReading.{numbered}
+use Rattle.frame_c.specs.CAnswers.{orShort, Fills}
 
 -- without room the answer is 7, or the refusal that comes first
 no-room : (n k room : ℕ) → room < k → orShort n k room ≡ 0 → ⊥
@@ -28,21 +29,21 @@ no-room n k room h e =
 pub room-left : (n k room : ℕ) {x : ℕ} → x ≡ orShort n k room → x ≡ 0 → k ≤ room
 room-left n k room e z = by-order k room (λ h. h) (λ h. absurd (no-room n k room h (sym e ∙ z)))
 
-pub refused : {n p x : ℕ} {b l : List ℕ} {r : ℕ} → x ≡ n → (x ≡ 0 → ⊥) → r ≡ cAnswer x p → Fills n p b l r l
+pub refused : {n p x : ℕ} {b l : List ℕ} {r : ℕ} → x ≡ n → (x ≡ 0 → ⊥) → r ≡ numbered x p → Fills n p b l r l
 refused {n} {p} {x} {b} {l} {r} e h a =
     record {
-      answer = a ∙ ap (λ (k : ℕ). cAnswer k p) e;
+      answer = a ∙ ap (λ (k : ℕ). numbered k p) e;
       output = sym (ap (λ (t : Bool). pick t (b ++ drop (length b) l) l) (ne-eqb n 0 (λ z. h (e ∙ z))));
     }
 
 pub stored : (m k : ℕ) {p x : ℕ} {b l e : List ℕ} {r j : ℕ} → x ≡ orShort m k (length l) → x ≡ 0 → length b ≡ k
-    → r ≡ cAnswer 0 p
+    → r ≡ numbered 0 p
     → Put l 0 b j e
     → Fills (orShort m k (length l)) p b l r e
 stored m k {p} {x} {b} {l} {e} {r} {j} u z w a put =
     let none : orShort m k (length l) ≡ 0 = sym u ∙ z in
     let room : length b ≤ length l = omega (arith, w, room-left m k (length l) u z) in
     record {
-      answer = a ∙ ap (λ (n : ℕ). cAnswer n p) (sym none);
+      answer = a ∙ ap (λ (n : ℕ). numbered n p) (sym none);
       output = put-front put room ∙ ap (λ (n : ℕ). outOf n b l) (sym none);
     }

@@ -6,10 +6,10 @@ ghost use Rattle.frame_build.specs.DataFrames.{dataFrame};
 ghost use Rattle.frame_build.specs.JoinFrames.{joinRequest, joinAccept};
 ghost use Rattle.frame_c.specs.CGiven.{acceptParts, dataParts, requestParts, dataRefused};
 ghost use Rattle.frame_c.specs.CAnswers.{BuildsInC};
-use crate::conversions::answers::answer;
 use crate::conversions::building::accept_parts;
 use crate::conversions::building::built_answer;
 use crate::conversions::building::data_parts;
+use frame::packed::numbered_bits;
 use frame::refusals::INVALID_DATA;
 use frame::refusals::INVALID_MESSAGE_TYPE;
 use frame_build::creator::join::JoinRequestParts;
@@ -85,10 +85,10 @@ pub extern "C" fn zinovoky_build_data(
         (now (out .entry)) r (now (out .exit)) ⌝ }
 {
     if kind < 2 {
-        return answer(INVALID_DATA, 0);
+        return numbered_bits(INVALID_DATA, 0);
     }
     if kind > 5 {
-        return answer(INVALID_MESSAGE_TYPE, 0);
+        return numbered_bits(INVALID_MESSAGE_TYPE, 0);
     }
     let addr = *dev_addr;
     let nwk = *nwk_skey;

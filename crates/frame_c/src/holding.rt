@@ -7,8 +7,8 @@ ghost use Rattle.amend.specs.SignedOnce.{amendListOf};
 ghost use Rattle.amend_held.specs.HeldBuffer.{loadedOpen};
 ghost use Rattle.amend_held.specs.HeldCalls.{openedInto, amendedInto, takenOf, takenInto};
 ghost use Rattle.frame_c.specs.CAnswers.{refusalAnswer, takenAnswer};
-use crate::conversions::answers::answer;
 use crate::conversions::answers::refusal_answer;
+use frame::packed::numbered_bits;
 
 #[no_mangle]
 pub extern "C" fn zinovoky_hold(
@@ -61,5 +61,5 @@ pub extern "C" fn zinovoky_held_frame(buffer: &[u8; 868], out: &mut [u8]) -> u64
 {
     let taken = amend_held::calls::frame_of(buffer, out);
     let refusal = taken.refusal;
-    answer(refusal.number, taken.length)
+    numbered_bits(refusal.number, taken.length)
 }

@@ -2,10 +2,10 @@
 ghost use mathlib.Core.Path.{_≡_};
 ghost use Rattle.frame_c.specs.CAnswers.{builtAnswer};
 ghost use Rattle.frame_c.specs.CGiven.{acceptParts, portGivenBy, dataParts};
-use crate::conversions::answers::answer;
 use crate::conversions::answers::refusal_answer;
 use frame::fctrl::is_confirmed;
 use frame::fctrl::is_uplink;
+use frame::packed::numbered_bits;
 use frame::parser::FPort;
 use frame_build::creator::Built;
 use frame_build::creator::data_frame::DataParts;
@@ -15,7 +15,7 @@ pub(crate) fn built_answer(built: Built) -> u64
     ensures { λ r. ⌜ r ≡ builtAnswer built ⌝ }
 {
     match built {
-        Built::Frame(n) => answer(0, n),
+        Built::Frame(n) => numbered_bits(0, n),
         Built::Refused(refusal) => refusal_answer(refusal),
     }
 }

@@ -5,13 +5,13 @@ ghost use lib.ListN.{length};
 ghost use Rattle.base.specs.Storing.{Put};
 ghost use Rattle.frame.specs.JoinFields.{listNumber};
 ghost use Rattle.frame_c.specs.CStored.{requestBytes, RequestInto, fourEach, acceptFixed, AcceptInto};
-use crate::conversions::answers::answer;
 use crate::conversions::storing::or_short;
 use base::storing::four_bytes;
 use base::storing::put;
 use frame::join_fields::CfList;
 use frame::join_fields::JoinAcceptFields;
 use frame::join_fields::JoinRequestFields;
+use frame::packed::numbered_bits;
 
 const REQUEST_FIELDS_LEN: usize = 22;
 
@@ -39,10 +39,10 @@ pub(crate) fn store_request(fields: JoinRequestFields, out: &mut [u8]) -> u64
     let refusal = fields.refusal;
     let number = or_short(refusal.number, REQUEST_FIELDS_LEN, out.len());
     if number != 0 {
-        return answer(number, refusal.place);
+        return numbered_bits(number, refusal.place);
     }
     put_request(fields, out);
-    answer(0, refusal.place)
+    numbered_bits(0, refusal.place)
 }
 
 // Which list a join-accept holds: 0 none, 1 frequencies, 2 masks.
@@ -97,10 +97,10 @@ pub(crate) fn store_accept(fields: JoinAcceptFields, out: &mut [u8]) -> u64
     let refusal = fields.refusal;
     let number = or_short(refusal.number, ACCEPT_FIELDS_LEN, out.len());
     if number != 0 {
-        return answer(number, refusal.place);
+        return numbered_bits(number, refusal.place);
     }
     let frequencies = fields.frequencies;
     let end = put_fixed(fields, out);
     put_frequencies(out, end, frequencies);
-    answer(0, refusal.place)
+    numbered_bits(0, refusal.place)
 }

@@ -11,17 +11,17 @@ use Rattle.frame_build.specs.DataBuilding.{dataHeader, dataLength, dataRefusal,
 use Rattle.frame_build.specs.DataFrames.{builtOf, dataFrame}
 use Rattle.frame_security.specs.Security.{fullCounter}
 use Rattle.frame_build.specs.declared.creator.Built.{Built}
-use Rattle.frame.specs.Refusals.{refused}
+use Rattle.frame.specs.Refusals.{refusal, refused}
 use Rattle.frame_build.specs.declared.creator.Built.the-variants.{Frame, Refused as NotBuilt}
 use Rattle.frame_build.specs.declared.creator.data_frame.DataParts.{DataParts}
 use Rattle.frame_build.proofs.DataBuiltLaws.{frame-long}
-use Rattle.frame.specs.Reading.{refuse, portOf, payloadOf, dataOf, readJoinRequest, readJoinAccept, readData, readType, readOf}
+use Rattle.frame.specs.Reading.{portOf, payloadOf, dataOf, readJoinRequest, readJoinAccept, readData, readType, readOf}
 use Rattle.frame.specs.declared.parser.FPort.{FPort}
 use Rattle.frame.specs.declared.parser.FPort.the-variants.{Absent, Port}
 use Rattle.frame.specs.declared.parser.FrmPayload.{FrmPayload}
 use Rattle.frame.specs.declared.parser.FrmPayload.the-variants.{Nothing, Data as PlainData, MacCommands}
 use Rattle.frame.specs.declared.parser.Reading.{Reading}
-use Rattle.frame.specs.declared.parser.Reading.the-variants.{JoinRequest, JoinAccept, Data}
+use Rattle.frame.specs.declared.parser.Reading.the-variants.{JoinRequest, JoinAccept, Data, Refused}
 
 -- what a row of building leaves open: keys, kind, address, the counter, and the bytes of commands and payload
 pub record Open : Type 0 where
@@ -86,16 +86,20 @@ up c e p d m a =
 abbrev answer : Reading → (ℕ → ℕ) → Reading
 answer r a = r
 
+-- refused by a number, at a place
+abbrev bad : ℕ → ℕ → (ℕ → ℕ) → Reading
+bad n p = answer (Refused (refusal n p))
+
 abbrev pub rows : List Row
 rows =
     -- P1
-    reads (λ a. []) (answer (refuse 1))
+    reads (λ a. []) (bad 1 0)
     -- P2
-    ∷ reads (bytes 10 67) (answer (refuse 1))
+    ∷ reads (bytes 10 67) (bad 1 11)
     -- P3
     ∷ reads (controlled 6 64 0) (up 0 8 Absent Nothing 8)
     -- P4
-    ∷ reads (controlled 6 64 1) (answer (refuse 4))
+    ∷ reads (controlled 6 64 1) (bad 4 5)
     -- P5
     ∷ reads (controlled 7 64 1) (up 1 9 Absent Nothing 9)
     -- P6
@@ -103,18 +107,18 @@ rows =
     -- P7
     ∷ reads (ported 5 64 0 0) (up 0 8 (Port 0) (MacCommands 9 10) 10)
     -- P8
-    ∷ reads (bytes 11 65) (answer (refuse 2))
+    ∷ reads (bytes 11 65) (bad 2 0)
     -- P9
-    ∷ reads (bytes 11 192) (answer (refuse 3))
+    ∷ reads (bytes 11 192) (bad 3 0)
     -- P10
-    ∷ reads (bytes 21 0) (answer (refuse 4))
+    ∷ reads (bytes 21 0) (bad 4 22)
     ∷ reads (bytes 22 0) (answer JoinRequest)
     -- P11
     ∷ reads (bytes 16 32) (answer (JoinAccept 17))
-    ∷ reads (bytes 17 32) (answer (refuse 4))
+    ∷ reads (bytes 17 32) (bad 4 18)
     ∷ reads (bytes 32 32) (answer (JoinAccept 33))
     -- P12
-    ∷ reads (bytes 255 64) (answer (refuse 12))
+    ∷ reads (bytes 255 64) (bad 12 256)
     -- P13
     ∷ reads (controlled 6 92 0) (up 0 8 Absent Nothing 8)
     -- P14

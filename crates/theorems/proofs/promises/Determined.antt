@@ -46,6 +46,7 @@ use Rattle.frame.proofs.parser.fhdr_length.Reads as frame-fhdr-length
 use Rattle.frame.proofs.parser.read.Reads as frame-read
 use Rattle.frame.proofs.numbers.other_refusal.Reads as frame-other-refusal
 use Rattle.frame.proofs.numbers.values_of.Reads as frame-values-of
+use Rattle.frame.proofs.packed.numbered_bits.Reads as frame-numbered-bits
 use Rattle.frame.proofs.packed.read_packed.Reads as frame-read-packed
 use Rattle.frame.proofs.join_fields.join_request_fields.Reads as frame-join-request-fields
 use Rattle.frame.proofs.join_fields.join_accept_fields.Reads as frame-join-accept-fields
@@ -233,6 +234,9 @@ frame-other-refusal-determined κs a x y s t p q = p ∙ sym q
 
 pub frame-values-of-determined : Determined frame-values-of.Learnt
 frame-values-of-determined κs a x y s t p q = p ∙ sym q
+
+pub frame-numbered-bits-determined : Determined frame-numbered-bits.Learnt
+frame-numbered-bits-determined κs a x y s t p q = p ∙ sym q
 
 pub frame-read-packed-determined : Determined frame-read-packed.Learnt
 frame-read-packed-determined κs a x y s t p q = p ∙ sym q

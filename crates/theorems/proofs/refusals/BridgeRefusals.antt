@@ -11,13 +11,14 @@ use lib.ListN.{length}
 use borrow.Author.Tests.{ne-eqb}
 use Rattle.base.specs.Bytes.{pick}
 use Rattle.frame.specs.JoinFields.{joinRequestFields, joinAcceptFields}
+use Rattle.frame.specs.PackedReading.{numbered}
 use Rattle.frame.specs.Reading.{readOf}
 use Rattle.frame.specs.Refusals.{refusal, refused, notRefused}
 use Rattle.frame.specs.declared.refusals.Refusal.{Refusal}
 use Rattle.frame_build.specs.DataFrames.{dataFrame, builtOf}
 use Rattle.frame_build.specs.declared.creator.data_frame.DataParts.{DataParts}
 use Rattle.frame_opening.specs.SessionKeys.{sessionKeys}
-use Rattle.frame_c.specs.CAnswers.{cAnswer, orShort}
+use Rattle.frame_c.specs.CAnswers.{orShort}
 use Rattle.frame_c.specs.CGiven.{dataRefused}
 use Rattle.theorems.specs.Exactly.{Exactly, Due}
 use Rattle.theorems.specs.ByReading.{Needs, join-request, join-accept, AfterReading}
@@ -86,6 +87,6 @@ accept-stored f room = rw (accept-refusal f) (stored-after 42 room join-accept f
 -- ---- the number in an answer
 
 -- is its low byte
-pub in-low-byte : (n value : ℕ) → n < 256 → numberInC (cAnswer n value) ≡ n
-unfolding cAnswer
+pub in-low-byte : (n value : ℕ) → n < 256 → numberInC (numbered n value) ≡ n
+unfolding numbered
 in-low-byte n value h = omega arith

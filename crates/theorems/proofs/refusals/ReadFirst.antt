@@ -8,7 +8,8 @@ use Prim.Native.Nat.{ℕ}
 use native.Mathlib.Omega.{arith}
 use lib.Dec.{T}
 use lib.ListN.{length}
-use Rattle.frame.specs.Conditions.{IsJoinAccept, Passes, Gives, of12, of1, of2, of3, of4}
+use Rattle.frame.specs.Conditions.{IsJoinAccept, Passes}
+use Rattle.frame.specs.Faults.{Fault, too-long, too-short, version, type, join-length, header, numberOfFault}
 use Rattle.frame.specs.Reading.{readOf, dataOf}
 use Rattle.frame.specs.ReadingNumbers.{numberOf, onRequest, onAccept, onData}
 use Rattle.frame.specs.Refusals.{refused}
@@ -69,15 +70,16 @@ module _ (f : List ℕ) where
   either-way k = sorted k (readOf f) refl (answers f)
 
   -- the number that reading gives is one of its own
-  of-reading : (n : ℕ) → Gives f n → T (ofReading n)
-  of-reading n (of12 e g) = rw e tt
-  of-reading n (of1 e g) = rw e tt
-  of-reading n (of2 e g) = rw e tt
-  of-reading n (of3 e g) = rw e tt
-  of-reading n (of4 e g) = rw e tt
+  of-fault : (x : Fault) → T (ofReading (numberOfFault x))
+  of-fault too-long = tt
+  of-fault too-short = tt
+  of-fault version = tt
+  of-fault type = tt
+  of-fault join-length = tt
+  of-fault header = tt
 
   reading-number : (k : Needs) (r : Refusal) → ByReading k f r → T (ofReading (r .number))
-  reading-number k r (keeps q) = of-reading (r .number) (refusal-read f q)
+  reading-number k r (keeps q) = let g = refusal-read f q in rw (g .is) (of-fault (g .fault))
   reading-number k r (other p n e) = rw e tt
 
 -- ---- what the call gives
@@ -101,15 +103,15 @@ module _ {A : Type 0} (x : A) (e : Refusal → A) (f : List ℕ) where
   other-gives join-request JoinRequest s p n = absurd (n s)
   other-gives join-request (JoinAccept m) s p n = refl
   other-gives join-request (Data d) s p n = refl
-  other-gives join-request (Refused r) s p n = absurd (not-both f (r .number) (s .0) p)
+  other-gives join-request (Refused r) s p n = absurd (not-both f r s p)
   other-gives join-accept JoinRequest s p n = refl
   other-gives join-accept (JoinAccept m) s p n = absurd (n (own-length f m s))
   other-gives join-accept (Data d) s p n = refl
-  other-gives join-accept (Refused r) s p n = absurd (not-both f (r .number) (s .0) p)
+  other-gives join-accept (Refused r) s p n = absurd (not-both f r s p)
   other-gives data-frame JoinRequest s p n = refl
   other-gives data-frame (JoinAccept m) s p n = refl
   other-gives data-frame (Data d) s p n = absurd (n (s .0))
-  other-gives data-frame (Refused r) s p n = absurd (not-both f (r .number) (s .0) p)
+  other-gives data-frame (Refused r) s p n = absurd (not-both f r s p)
 
   -- so what reading gives is handed on
   pub handed-on : (k : Needs) (r : Refusal) → ByReading k f r → on k x e (readOf f) ≡ e r

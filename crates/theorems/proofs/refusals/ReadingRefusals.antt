@@ -1,135 +1,138 @@
--- Each number that reading may give, 12, 1, 2, 3 and 4, is given exactly where its condition holds and that of no earlier
--- one does, and accepted frames are exactly the rest. The way there is `answers`; the way back `reads-12` and so on.
+-- Each refusal of reading, number and place, is given exactly where its fault is found, and accepted frames are exactly the rest. The
+-- way there is `answers`; the way back `reads-fault`.
 -- Assumes nothing.
-use mathlib.Core.Path.{_≡_, refl, ap, _∙_, subst}
+use mathlib.Core.Path.{_≡_, refl, sym, ap, _∙_, subst}
+use mathlib.Core.Bool.{false}
 use mathlib.Core.List.{List}
 use mathlib.Core.Logic.{⊎-elim}
 use Prim.Native.Nat.{ℕ, _≤_, _<_}
 use native.Mathlib.Omega.{arith}
-use Rattle.frame.specs.Reading.{readOf}
+use lib.Dec.{eqb}
+use lib.ListN.{length}
+use borrow.Author.Tests.{eqb-true, ne-eqb}
+use Rattle.base.proofs.Cases.{by-bool}
+use Rattle.frame.specs.Faults.{Fault, too-long, too-short, version, type, join-length, header, faultRefusal}
+use Rattle.frame.specs.Reading.{refuse, readOf}
 use Rattle.frame.specs.ReadingNumbers.{numberOf}
-use Rattle.frame.specs.Conditions.{IsJoinRequest, IsJoinAccept, IsData, WrongLength, request, accept, header, Gives12, Gives1, Gives2, Gives3, Gives4, Passes, Gives, of12, of1, of2, of3, of4}
+use Rattle.frame.specs.Refusals.{refusal}
+use Rattle.frame.specs.Conditions.{IsJoinRequest, IsJoinAccept, IsData, WrongJoinLength, request, accept, Gives12, Gives1, Gives2, Gives3, Gives4Join, Gives4Header, Found, Passes, Gives}
+use Rattle.frame.specs.declared.refusals.Refusal.{Refusal}
 use Rattle.frame.specs.declared.parser.Reading.{Reading}
 use Rattle.frame.specs.declared.parser.Reading.the-variants.{JoinRequest, JoinAccept, Data, Refused}
-use Rattle.theorems.specs.Exactly.{Exactly}
-use Rattle.frame.proofs.ReadingLaws.{Says, answers, reads-12, reads-1, reads-2, reads-3, reads-4}
-
--- ---- from a number to its condition
+use Rattle.theorems.specs.Exactly.{Exactly, choice}
+use Rattle.frame.proofs.ReadingLaws.{Says, answers, refusal-read, reads-fault, given-number}
 
 module _ (f : List ℕ) where
-  has-number : (r : Reading) (n : ℕ) → 0 < n → Says f r → numberOf r ≡ n → Gives f n
-  has-number JoinRequest n h s e = absurd (omega arith)
-  has-number (JoinAccept m) n h s e = absurd (omega arith)
-  has-number (Data d) n h s e = absurd (omega arith)
-  has-number (Refused r) n h s e = subst (λ (k : ℕ). Gives f k) e (s .0)
+  -- ---- from a refusal to its condition
 
-  given : (n : ℕ) → 0 < n → numberOf (readOf f) ≡ n → Gives f n
-  given n h e = has-number (readOf f) n h (answers f) e
+  -- what number n at place p says of the frame; 4 is at place 5 where a header does not fit
+  abbrev Said : ℕ → ℕ → Type 0
+  Said n p =
+      choice (eqb n 12) (Gives12 f)
+      (choice (eqb n 1) (Gives1 f)
+      (choice (eqb n 2) (Gives2 f) (choice (eqb n 3) (Gives3 f) (choice (eqb p 5) (Gives4Header f) (Gives4Join f)))))
 
-  only-12 : Gives f 12 → Gives12 f
-  only-12 (of12 e g) = g
-  only-12 (of1 e g) = absurd (omega arith)
-  only-12 (of2 e g) = absurd (omega arith)
-  only-12 (of3 e g) = absurd (omega arith)
-  only-12 (of4 e g) = absurd (omega arith)
+  abbrev SaidBy : Refusal → Type 0
+  SaidBy r = Said (r .number) (r .place)
 
-  only-1 : Gives f 1 → Gives1 f
-  only-1 (of12 e g) = absurd (omega arith)
-  only-1 (of1 e g) = g
-  only-1 (of2 e g) = absurd (omega arith)
-  only-1 (of3 e g) = absurd (omega arith)
-  only-1 (of4 e g) = absurd (omega arith)
+  -- a join message of five bytes is refused before its length is looked at
+  not-five : 12 ≤ length f → eqb (length f) 5 ≡ false
+  not-five h = ne-eqb (length f) 5 (λ e. omega arith)
 
-  only-2 : Gives f 2 → Gives2 f
-  only-2 (of12 e g) = absurd (omega arith)
-  only-2 (of1 e g) = absurd (omega arith)
-  only-2 (of2 e g) = g
-  only-2 (of3 e g) = absurd (omega arith)
-  only-2 (of4 e g) = absurd (omega arith)
+  found-said : (x : Fault) → Found x f → SaidBy (faultRefusal x f)
+  found-said too-long h = h
+  found-said too-short h = h
+  found-said version h = h
+  found-said type h = h
+  found-said join-length h = rw (not-five (h .not-1)) h
+  found-said header h = h
 
-  only-3 : Gives f 3 → Gives3 f
-  only-3 (of12 e g) = absurd (omega arith)
-  only-3 (of1 e g) = absurd (omega arith)
-  only-3 (of2 e g) = absurd (omega arith)
-  only-3 (of3 e g) = g
-  only-3 (of4 e g) = absurd (omega arith)
+  said-found : (x : Fault) → SaidBy (faultRefusal x f) → Found x f
+  said-found too-long h = h
+  said-found too-short h = h
+  said-found version h = h
+  said-found type h = h
+  said-found join-length h = by-bool (eqb (length f) 5)
+      (λ e.
+      let g : Gives4Header f = rw e at h in
+      absurd (omega (arith, eqb-true (length f) 5 e, g .not-1)))
+      (λ e. rw e at h)
+  said-found header h = h
 
-  only-4 : Gives f 4 → Gives4 f
-  only-4 (of12 e g) = absurd (omega arith)
-  only-4 (of1 e g) = absurd (omega arith)
-  only-4 (of2 e g) = absurd (omega arith)
-  only-4 (of3 e g) = absurd (omega arith)
-  only-4 (of4 e g) = g
+  only : (x : Fault) → Gives f (faultRefusal x f) → Found x f
+  only x g = said-found x (subst (λ (r : Refusal). SaidBy r) (sym (g .is)) (found-said (g .fault) (g .found)))
 
   -- ---- accepted frames
 
-  request-right : IsJoinRequest f → WrongLength f → ⊥
+  request-right : IsJoinRequest f → WrongJoinLength f → ⊥
   request-right h (request t n) = n (h .long)
   request-right h (accept t n m) = omega arith
-  request-right h (header t u n) = omega arith
 
-  accept-right : (n : ℕ) → IsJoinAccept f n → WrongLength f → ⊥
+  accept-right : (n : ℕ) → IsJoinAccept f n → WrongJoinLength f → ⊥
   accept-right n h (request t m) = omega arith
   accept-right n h (accept t m k) = ⊎-elim (λ e. m (h .long ∙ e)) (λ e. k (h .long ∙ e)) (h .either)
-  accept-right n h (header t u m) = omega arith
 
-  data-right : IsData f → WrongLength f → ⊥
+  data-right : IsData f → WrongJoinLength f → ⊥
   data-right h (request t n) = omega arith
   data-right h (accept t n m) = omega arith
-  data-right h (header t u n) = omega arith
 
-  -- what a given refusal says and what an accepted frame says do not go together
-  pub not-both : (n : ℕ) → Gives f n → Passes f → ⊥
-  not-both n (of12 e g) p = omega arith
-  not-both n (of1 e g) p = omega arith
-  not-both n (of2 e g) p = g .other (p .not-2)
-  not-both n (of3 e g) p = omega arith
-  not-both n (of4 e g) p = p .not-4 (g .wrong)
+  -- a fault that is found and what an accepted frame says do not go together
+  not-found : (x : Fault) → Found x f → Passes f → ⊥
+  not-found too-long h p = omega arith
+  not-found too-short h p = omega arith
+  not-found version h p = h .other (p .not-2)
+  not-found type h p = omega arith
+  not-found join-length h p = p .not-join (h .wrong)
+  not-found header h p = omega (arith, h .short, p .not-header (h .data-frame))
 
-  not-none : Gives f 0 → ⊥
-  not-none (of12 e g) = omega arith
-  not-none (of1 e g) = omega arith
-  not-none (of2 e g) = omega arith
-  not-none (of3 e g) = omega arith
-  not-none (of4 e g) = omega arith
+  pub not-both : (r : Refusal) → Gives f r → Passes f → ⊥
+  not-both r g p = not-found (g .fault) (g .found) p
 
   pub passes : (r : Reading) → Says f r → numberOf r ≡ 0 → Passes f
   passes JoinRequest s e =
-      record { not-12 = omega arith; not-1 = omega arith; not-2 = s .version; not-3 = omega arith; not-4 = request-right s }
+      record { not-12 = omega arith; not-1 = omega arith; not-2 = s .version; not-3 = omega arith; not-join = request-right s; not-header = λ h. omega arith }
   passes (JoinAccept n) s e =
       let long : (12 ≤ n) × (n ≤ 255) = ⊎-elim (λ q. (omega arith, omega arith)) (λ q. (omega arith, omega arith)) (s .either) in
-      record { not-12 = omega arith; not-1 = omega arith; not-2 = s .version; not-3 = omega arith; not-4 = accept-right n s }
+      record { not-12 = omega arith; not-1 = omega arith; not-2 = s .version; not-3 = omega arith; not-join = accept-right n s; not-header = λ h. omega arith }
   passes (Data d) s e =
-      record { not-12 = s .0 .most; not-1 = s .0 .least; not-2 = s .0 .version; not-3 = s .0 .below; not-4 = data-right (s .0) }
-  passes (Refused r) s e = absurd (not-none (subst (λ (k : ℕ). Gives f k) e (s .0)))
+      record { not-12 = s .0 .most; not-1 = s .0 .least; not-2 = s .0 .version; not-3 = s .0 .below; not-join = data-right (s .0); not-header = λ h. s .0 .fits }
+  passes (Refused r) s e = absurd (omega (arith, given-number f r s, e))
 
   accepts : (r : Reading) → Says f r → Passes f → numberOf r ≡ 0
   accepts JoinRequest s h = refl
   accepts (JoinAccept n) s h = refl
   accepts (Data d) s h = refl
-  accepts (Refused r) s h = absurd (not-both (r .number) (s .0) h)
+  accepts (Refused r) s h = absurd (not-both r s h)
 
-  -- ---- the theorem for each number
+  -- ---- the theorem: each fault is answered, by its number and at its place, exactly where it is found
 
-  pub number-12 : Exactly (numberOf (readOf f) ≡ 12) (Gives12 f)
-  number-12 = record { there = λ e. only-12 (given 12 (omega arith) e); back = λ g. ap numberOf (reads-12 f g) }
-
-  pub number-1 : Exactly (numberOf (readOf f) ≡ 1) (Gives1 f)
-  number-1 = record { there = λ e. only-1 (given 1 (omega arith) e); back = λ g. ap numberOf (reads-1 f g) }
-
-  pub number-2 : Exactly (numberOf (readOf f) ≡ 2) (Gives2 f)
-  number-2 = record { there = λ e. only-2 (given 2 (omega arith) e); back = λ g. ap numberOf (reads-2 f g) }
-
-  pub number-3 : Exactly (numberOf (readOf f) ≡ 3) (Gives3 f)
-  number-3 = record { there = λ e. only-3 (given 3 (omega arith) e); back = λ g. ap numberOf (reads-3 f g) }
-
-  pub number-4 : Exactly (numberOf (readOf f) ≡ 4) (Gives4 f)
-  number-4 = record { there = λ e. only-4 (given 4 (omega arith) e); back = λ g. ap numberOf (reads-4 f g) }
+  pub refuses : (x : Fault) → Exactly (readOf f ≡ refuse x f) (Found x f)
+  refuses x = record { there = λ e. only x (refusal-read f e); back = reads-fault f x }
 
   -- accepted: number 0
   pub number-0 : Exactly (numberOf (readOf f) ≡ 0) (Passes f)
   number-0 = record { there = passes (readOf f) (answers f); back = accepts (readOf f) (answers f) }
 
-  -- and no other number is given
-  pub no-other : (n : ℕ) → numberOf (readOf f) ≡ n → 0 < n → Gives f n
-  no-other n e h = given n h e
+  -- and no other refusal is given
+  pub no-other : (r : Refusal) → readOf f ≡ Refused r → Gives f r
+  no-other r e = refusal-read f e
+
+  -- ---- number by number, written out
+
+  pub number-12 : Exactly (readOf f ≡ Refused (refusal 12 (length f))) (Gives12 f)
+  number-12 = refuses too-long
+
+  pub number-1 : Exactly (readOf f ≡ Refused (refusal 1 (length f))) (Gives1 f)
+  number-1 = refuses too-short
+
+  pub number-2 : Exactly (readOf f ≡ Refused (refusal 2 0)) (Gives2 f)
+  number-2 = refuses version
+
+  pub number-3 : Exactly (readOf f ≡ Refused (refusal 3 0)) (Gives3 f)
+  number-3 = refuses type
+
+  pub number-4-join : Exactly (readOf f ≡ Refused (refusal 4 (length f))) (Gives4Join f)
+  number-4-join = refuses join-length
+
+  pub number-4-header : Exactly (readOf f ≡ Refused (refusal 4 5)) (Gives4Header f)
+  number-4-header = refuses header

@@ -5,7 +5,7 @@ use native.Mathlib.Omega.{arith}
 use borrow.Author.Needs.{needs}
 use Rattle.frame.specs.PackedReading.{packedOf}
 use Rattle.frame.proofs.ReadingLaws.{data-read}
-use Rattle.frame.proofs.PackedLaws.{request-is, accept-is, accept-within}
+use Rattle.frame.proofs.PackedLaws.{flat-refused, request-is, accept-is, accept-within}
 use Rattle.frame.proofs.packed.other_bits.Statement.{statement}
 use Rattle.frame.proofs.packed.other_bits.Tie as tie
 
@@ -31,7 +31,7 @@ returns-3 c =
 returns-4 : tie.Need-returns-4
 returns-4 c =
     let read = c .before .before .before .before .read .ensures in
-    c .refused-bits .ensures ∙ ap packedOf (sym (c .before .before .reading2 .given .1) ∙ read)
+    c .numbered-bits .ensures ∙ flat-refused _ ∙ ap packedOf (sym (c .before .before .reading2 .given .1) ∙ read)
 
 pub other-bits-spec : {M : Type 1} → statement M
 other-bits-spec =

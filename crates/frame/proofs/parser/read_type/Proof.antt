@@ -18,10 +18,10 @@ returns-3 : tie.Need-returns-3
 returns-3 c = c .read-data .ensures ∙ sym (type-data _ (omega arith) (omega arith))
 
 returns-4 : tie.Need-returns-4
-returns-4 c = sym (type-other _ (omega arith))
+returns-4 c = c .refused .ensures ∙ sym (type-other _ (omega arith))
 
 pub read-type-spec : {M : Type 1} → statement M
 read-type-spec =
     tie.close
     (tie.spec (λ c. search needs) (λ c κs. search needs) (λ c κs. search needs) returns (λ c κs. search needs)
-    returns-2 (λ c κs. search needs) returns-3 returns-4)
+    returns-2 (λ c κs. search needs) returns-3 (λ c κs. search needs) returns-4)

@@ -12,10 +12,10 @@ use Rattle.frame_c.proofs.building.zinovoky_build_data.Statement.{state
 use Rattle.frame_c.proofs.building.zinovoky_build_data.Tie as tie
 
 returns : tie.Need-returns
-returns c = refused-kind 4 refl (below-data _ _ _ _ _ (c .before .if1 .taken)) (c .answer .ensures)
+returns c = refused-kind 4 refl (below-data _ _ _ _ _ (c .before .if1 .taken)) (c .numbered-bits .ensures)
 
 returns-2 : tie.Need-returns-2
-returns-2 c = refused-kind 3 refl (above-data _ _ _ _ _ (c .before .before .if1 .left) (c .before .if2 .taken)) (c .answer2 .ensures)
+returns-2 c = refused-kind 3 refl (above-data _ _ _ _ _ (c .before .before .if1 .left) (c .before .if2 .taken)) (c .numbered-bits2 .ensures)
 
 returns-3 : tie.Need-returns-3
 returns-3 c =

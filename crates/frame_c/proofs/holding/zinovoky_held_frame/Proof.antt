@@ -9,7 +9,7 @@ use Rattle.frame_c.proofs.holding.zinovoky_held_frame.Tie as tie
 returns : tie.Need-returns
 returns c =
     let taken = c .before .before .before .before .frame-of .ensures in
-    (c .answer .ensures ∙ ap takenAnswer (taken .0), taken .1)
+    (c .numbered-bits .ensures ∙ ap takenAnswer (taken .0), taken .1)
 
 pub zinovoky-held-frame-spec : {M : Type 1} → statement M
 zinovoky-held-frame-spec =

@@ -7,7 +7,7 @@ use Rattle.frame_c.proofs.conversions.answers.opening_answer.Statement.
 use Rattle.frame_c.proofs.conversions.answers.opening_answer.Tie as tie
 
 returns : tie.Need-returns
-returns c = c .answer .ensures ∙ ap openingAnswer (sym (c .before .enum-told .given .1))
+returns c = c .numbered-bits .ensures ∙ ap openingAnswer (sym (c .before .enum-told .given .1))
 
 returns-2 : tie.Need-returns-2
 returns-2 c = c .refusal-answer .ensures ∙ ap openingAnswer (sym (c .before .before .opening .given .1))

@@ -7,10 +7,10 @@ use Rattle.frame_c.proofs.conversions.answers.test_answer.Statement.{st
 use Rattle.frame_c.proofs.conversions.answers.test_answer.Tie as tie
 
 returns : tie.Need-returns
-returns c = tested _ (sym (c .before .enum-told .given .1)) (c .answer .ensures) refl
+returns c = tested _ (sym (c .before .enum-told .given .1)) (c .numbered-bits .ensures) refl
 
 returns-2 : tie.Need-returns-2
-returns-2 c = tested _ (sym (c .before .enum-told2 .given .1)) (c .answer2 .ensures) refl
+returns-2 c = tested _ (sym (c .before .enum-told2 .given .1)) (c .numbered-bits2 .ensures) refl
 
 returns-3 : tie.Need-returns-3
 returns-3 c = tested _ (sym (c .before .before .test .given .1)) (c .refusal-answer .ensures) refl

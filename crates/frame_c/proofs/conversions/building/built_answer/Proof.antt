@@ -7,7 +7,7 @@ use Rattle.frame_c.proofs.conversions.building.built_answer.Statement.{
 use Rattle.frame_c.proofs.conversions.building.built_answer.Tie as tie
 
 returns : tie.Need-returns
-returns c = c .answer .ensures ∙ ap builtAnswer (sym (c .before .before .built .given .1))
+returns c = c .numbered-bits .ensures ∙ ap builtAnswer (sym (c .before .before .built .given .1))
 
 returns-2 : tie.Need-returns-2
 returns-2 c = c .refusal-answer .ensures ∙ ap builtAnswer (sym (c .before .before .built2 .given .1))

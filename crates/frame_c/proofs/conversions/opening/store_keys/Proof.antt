@@ -18,7 +18,7 @@ long : (c : tie.Start) → length (c .args .session .«nwk_skey» ++ c .args .se
 long c = omega (arith, length-append (c .args .session .«nwk_skey») (c .args .session .«app_skey»), sizes c)
 
 returns : tie.Need-returns
-returns c = refused (c .before .before .or-short .ensures) (c .before .if1 .taken) (c .answer .ensures)
+returns c = refused (c .before .before .or-short .ensures) (c .before .if1 .taken) (c .numbered-bits .ensures)
 
 returns-2 : tie.Need-returns-2
 returns-2 c =
@@ -30,7 +30,7 @@ returns-2 c =
     let room = room-left _ _ _ short (tested .if1 .left) in
     let one = fitted (first .put .ensures) (omega (arith, room, sizes start)) in
     let two = fitted (second .put2 .ensures) (omega (arith, room, sizes start, one .next, put-length one)) in
-    stored _ _ short (tested .if1 .left) (long start) (c .answer2 .ensures) (then one two)
+    stored _ _ short (tested .if1 .left) (long start) (c .numbered-bits2 .ensures) (then one two)
 
 pub store-keys-spec : {M : Type 1} → statement M
 store-keys-spec =

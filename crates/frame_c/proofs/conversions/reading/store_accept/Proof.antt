@@ -21,7 +21,7 @@ long c =
     ∙ omega (arith, fixed c, four-each-long 5 (c .args .fields .frequencies))
 
 returns : tie.Need-returns
-returns c = refused (c .before .before .or-short .ensures) (c .before .if1 .taken) (c .answer .ensures)
+returns c = refused (c .before .before .or-short .ensures) (c .before .if1 .taken) (c .numbered-bits .ensures)
 
 put-fixed-requires : tie.Need-put-fixed-requires
 put-fixed-requires c κs =
@@ -42,7 +42,7 @@ returns-2 c =
     let first = second .before .before .before .before in
     let tested = first .before .before .before in
     stored _ _ (tested .before .or-short .ensures) (tested .if1 .left) (long (tested .before .before .before .before))
-    (c .answer2 .ensures) (then (first .put-fixed .ensures) (second .put-frequencies .ensures))
+    (c .numbered-bits2 .ensures) (then (first .put-fixed .ensures) (second .put-frequencies .ensures))
 
 pub store-accept-spec : {M : Type 1} → statement M
 store-accept-spec =

@@ -13,13 +13,13 @@ long : (c : tie.Start) → length (requestBytes (c .args .fields)) ≡ 22
 long c = request-long (c .args .fields) (search needs) (search needs) (search needs) (search needs)
 
 returns : tie.Need-returns
-returns c = refused (c .before .before .or-short .ensures) (c .before .if1 .taken) (c .answer .ensures)
+returns c = refused (c .before .before .or-short .ensures) (c .before .if1 .taken) (c .numbered-bits .ensures)
 
 returns-2 : tie.Need-returns-2
 returns-2 c =
     let tested = c .before .before .before .before .before in
     stored _ _ (tested .before .or-short .ensures) (tested .if1 .left) (long (tested .before .before .before .before))
-    (c .answer2 .ensures) (c .before .before .before .put-request .ensures)
+    (c .numbered-bits2 .ensures) (c .before .before .before .put-request .ensures)
 
 pub store-request-spec : {M : Type 1} → statement M
 store-request-spec =
