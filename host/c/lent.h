@@ -59,7 +59,8 @@ static void map_slices(void) {
 /* Lends a copy of the bytes, of which the first must become others. */
 static void *lend_changed(const void *bytes, size_t len, const void *changed, size_t changed_len) {
     struct slice *slice = &slices[lent++];
-    size_t place = way == BETWEEN_GUARDS ? MAPPED / 2 : way == AT_THE_END ? MAPPED - len : 0;
+    size_t middle = (MAPPED - len) / 32 * 16; /* where numbers may lie too */
+    size_t place = way == BETWEEN_GUARDS ? middle : way == AT_THE_END ? MAPPED - len : 0;
     if (lent > SLICES || len > MOST || changed_len > len) {
         fprintf(stderr, "every_call: %s lends more than there is room for\n", call);
         exit(2);

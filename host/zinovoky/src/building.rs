@@ -61,14 +61,14 @@ impl fmt::Debug for Frame {
 /// The fields of a join-request, in frame order.
 ///
 /// ```
-/// use zinovoky::{AppKey, JoinRequest, Refusal};
+/// use zinovoky::{AppKey, JoinRequest, Reason, Refusal};
 /// let fields = JoinRequest { app_eui: [4, 3, 2, 1, 4, 3, 2, 1], dev_eui: [5, 4, 3, 2, 5, 4, 3, 2], dev_nonce: [0x2d, 0x10] };
 /// let frame = fields.build(&AppKey([1; 16]))?;
 /// assert_eq!(frame.len(), 23);
 /// assert_eq!(frame[19..], [0x6a, 0x99, 0x0e, 0x12]);
 ///
 /// let mut short = [0; 22];
-/// assert_eq!(fields.build_into(&AppKey([1; 16]), &mut short), Err(Refusal::BufferTooShort));
+/// assert_eq!(fields.build_into(&AppKey([1; 16]), &mut short), Err(Reason::BufferTooShort.at(0)));
 /// assert_eq!(short, [0; 22]);
 /// # Ok::<(), Refusal>(())
 /// ```
@@ -94,7 +94,7 @@ impl JoinRequest {
 /// The fields of a join-accept, in frame order; channels are in units of 100 Hz.
 ///
 /// ```
-/// use zinovoky::{AppKey, ClearJoinAccept, JoinAccept, Refusal};
+/// use zinovoky::{AppKey, ClearJoinAccept, JoinAccept, Reason, Refusal};
 /// let fields = JoinAccept {
 ///     app_nonce: [1; 3],
 ///     net_id: [1; 3],
@@ -111,7 +111,7 @@ impl JoinRequest {
 /// assert_eq!(clear.channels(), Some([8_678_000, 8_676_000, 0, 0, 0]));
 ///
 /// let six = JoinAccept { channels: Some(&[0; 6]), ..fields };
-/// assert_eq!(six.build(&app_key), Err(Refusal::InvalidChannelList));
+/// assert_eq!(six.build(&app_key), Err(Reason::InvalidChannelList.at(0)));
 /// # Ok::<(), Refusal>(())
 /// ```
 #[derive(Clone, Copy, Debug, PartialEq, Eq)]
@@ -143,7 +143,7 @@ impl JoinAccept<'_> {
 /// The fields of a data frame.
 ///
 /// ```
-/// use zinovoky::{AppSKey, Data, DataKind, NwkSKey, Refusal};
+/// use zinovoky::{AppSKey, Data, DataKind, NwkSKey, Reason, Refusal};
 /// let (nwk_skey, app_skey) = (NwkSKey([2; 16]), AppSKey([1; 16]));
 /// let fields = Data {
 ///     kind: DataKind::UnconfirmedUp,
@@ -158,7 +158,7 @@ impl JoinAccept<'_> {
 /// assert_eq!(frame.as_bytes(), b"\x40\x04\x03\x02\x01\x80\x01\x00\x01\xa6\x94\x64\x26\x15\xd6\xc3\xb5\x82");
 ///
 /// let long = Data { payload: &[0; 243], ..fields };
-/// assert_eq!(long.build(&nwk_skey, &app_skey), Err(Refusal::FrameTooLong));
+/// assert_eq!(long.build(&nwk_skey, &app_skey), Err(Reason::FrameTooLong.at(0)));
 /// # Ok::<(), Refusal>(())
 /// ```
 #[derive(Clone, Copy, Debug, PartialEq, Eq)]

@@ -4,7 +4,7 @@
 //! pointer to as many bytes as the header asks for, and the borrow checker keeps what is written apart from the rest.
 
 use crate::packed::Packed;
-use crate::{Refusal, Result};
+use crate::{Reason, Result};
 
 mod c {
     extern "C" {
@@ -101,12 +101,13 @@ type Key = [u8; 16];
 /// What holds an open frame, ZINOVOKY_HELD_LEN bytes.
 pub type Held = [u8; 868];
 
-/// The low byte is the refusal's number or 0; above it stands what was built, as a length, or what was read.
+/// The low byte is the refusal's number or 0; above it stands the refusal's place, or what was built, as a length, or
+/// what was read.
 #[inline]
 fn answered(answer: u64) -> Result<u64> {
     match answer as u8 {
         0 => Ok(answer),
-        number => Err(Refusal::from_number(number).unwrap_or(Refusal::InvalidData)),
+        number => Err(Reason::from_number(number).unwrap_or(Reason::InvalidData).at((answer >> 8) as usize)),
     }
 }
 

@@ -7,13 +7,13 @@ use std::fmt;
 /// so. The bytes stay in one place, so that a move leaves no copy of the keys, and are cleared when it is dropped.
 ///
 /// ```
-/// use zinovoky::{decrypt_data_checked, Amendment, AppSKey, NwkSKey, OpenFrame, Refusal};
+/// use zinovoky::{decrypt_data_checked, Amendment, AppSKey, NwkSKey, OpenFrame, Reason, Refusal};
 /// let bytes = *b"\x40\x04\x03\x02\x01\x80\x01\x00\x01\xa6\x94\x64\x26\x15\xd6\xc3\xb5\x82";
 /// let (nwk_skey, app_skey) = (NwkSKey([2; 16]), AppSKey([1; 16]));
 /// let mut open = OpenFrame::open(&bytes, &nwk_skey, &app_skey, 1)?;
 /// open.amend(0, b'j')?;
 /// open.amend_list(&[Amendment::new(3, b'l'), Amendment::new(4, b'y')])?;
-/// assert_eq!(open.amend(5, 0), Err(Refusal::OffsetOutside));
+/// assert_eq!(open.amend(5, 0), Err(Reason::OffsetOutside.at(0)));
 ///
 /// let mut frame = open.frame()?;
 /// decrypt_data_checked(frame.as_mut_bytes(), &nwk_skey, Some(&app_skey), 1)?;

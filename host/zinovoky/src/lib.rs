@@ -1,8 +1,8 @@
 //! LoRaWAN 1.0 frames over a proved codec: reading, MIC tests, decryption, session keys, the three builders, and
 //! amendments to the payload of a frame.
 //!
-//! Every call, on any bytes, ends in its result or in a [`Refusal`]; a refusal changes no byte that was lent. Nothing
-//! here panics. The work is done by the static library of the crate `frame_c`, where each call is proved to answer as
+//! Every call, on any bytes, ends in its result or in a [`Refusal`], which says why and where a frame is bad; a refusal
+//! changes no byte that was lent. Nothing here panics. The work is done by the static library of the crate `frame_c`, where each call is proved to answer as
 //! the definitions written from FIPS 197, RFC 4493 and LoRaWAN 1.0 say; this crate turns its numbers into types.
 //!
 //! ```
@@ -21,7 +21,7 @@
 //! let mut frame = fields.build(&nwk_skey, &app_skey)?;
 //!
 //! decrypt_data_checked(frame.as_mut_bytes(), &nwk_skey, Some(&app_skey), 76543)?;
-//! let Reading::Data(data) = read(&frame)? else { return Err(Refusal::InvalidData) };
+//! let Reading::Data(data) = read(&frame)? else { panic!("another type") };
 //! assert_eq!(data.port(), Some(42));
 //! assert_eq!(data.payload(), Payload::Data(b"hello lora"));
 //! # Ok::<(), Refusal>(())
@@ -48,6 +48,6 @@ pub use opening::{
     join_accept_mic, join_request_mic, session_keys, Amendment,
 };
 pub use reading::{nwk_id, read, DataFields, DataKind, JoinRequestFields, Payload, Reading};
-pub use refusal::Refusal;
+pub use refusal::{Reason, Refusal};
 
 pub type Result<T> = std::result::Result<T, Refusal>;

@@ -39,9 +39,9 @@ pub fn data_mic(frame: &[u8], nwk_skey: &NwkSKey, counter: u32) -> Result<bool> 
 /// frame's own. Refusals: the reader's, 4 for a frame of another type, 6.
 ///
 /// ```
-/// use zinovoky::{decrypt_data, read, AppSKey, Payload, Reading, Refusal};
+/// use zinovoky::{decrypt_data, read, AppSKey, Payload, Reading, Reason, Refusal};
 /// let mut frame = *b"\x40\x04\x03\x02\x01\x80\x01\x00\x01\xa6\x94\x64\x26\x15\xd6\xc3\xb5\x82";
-/// assert_eq!(decrypt_data(&mut frame, None, None, 1), Err(Refusal::InvalidKey));
+/// assert_eq!(decrypt_data(&mut frame, None, None, 1), Err(Reason::InvalidKey.at(0)));
 /// decrypt_data(&mut frame, None, Some(&AppSKey([1; 16])), 1)?;
 /// let Reading::Data(data) = read(&frame)? else { panic!("another type") };
 /// assert_eq!(data.payload(), Payload::Data(b"hello"));
@@ -61,10 +61,10 @@ pub fn decrypt_data(
 /// another type, 5, 6.
 ///
 /// ```
-/// use zinovoky::{decrypt_data_checked, AppSKey, NwkSKey, Refusal};
+/// use zinovoky::{decrypt_data_checked, AppSKey, NwkSKey, Reason, Refusal};
 /// let mut frame = *b"\x40\x04\x03\x02\x01\x80\x01\x00\x01\xa6\x94\x64\x26\x15\xd6\xc3\xb5\x82";
 /// let (nwk_skey, app_skey) = (NwkSKey([2; 16]), AppSKey([1; 16]));
-/// assert_eq!(decrypt_data_checked(&mut frame, &nwk_skey, Some(&app_skey), 2), Err(Refusal::InvalidMic));
+/// assert_eq!(decrypt_data_checked(&mut frame, &nwk_skey, Some(&app_skey), 2), Err(Reason::InvalidMic.at(0)));
 /// decrypt_data_checked(&mut frame, &nwk_skey, Some(&app_skey), 1)?;
 /// assert_eq!(&frame[9..14], b"hello");
 /// # Ok::<(), Refusal>(())
@@ -132,12 +132,12 @@ impl Amendment {
 /// 15 if an offset is outside; then none of the list is made.
 ///
 /// ```
-/// use zinovoky::{amend, decrypt_data_checked, Amendment, AppSKey, NwkSKey, Refusal};
+/// use zinovoky::{amend, decrypt_data_checked, Amendment, AppSKey, NwkSKey, Reason, Refusal};
 /// let mut frame = *b"\x40\x04\x03\x02\x01\x80\x01\x00\x01\xa6\x94\x64\x26\x15\xd6\xc3\xb5\x82";
 /// let (nwk_skey, app_skey) = (NwkSKey([2; 16]), AppSKey([1; 16]));
 /// amend(&mut frame, &nwk_skey, &app_skey, 1, &[Amendment::new(0, b'j'), Amendment::new(4, b'y')])?;
 /// let outside = amend(&mut frame, &nwk_skey, &app_skey, 1, &[Amendment::new(5, 0)]);
-/// assert_eq!(outside, Err(Refusal::OffsetOutside));
+/// assert_eq!(outside, Err(Reason::OffsetOutside.at(0)));
 /// decrypt_data_checked(&mut frame, &nwk_skey, Some(&app_skey), 1)?;
 /// assert_eq!(&frame[9..14], b"jelly");
 /// # Ok::<(), Refusal>(())

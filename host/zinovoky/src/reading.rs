@@ -1,7 +1,7 @@
 //! Reading a frame, and what is found in it.
 
 use crate::packed::Packed;
-use crate::{ffi, Refusal, Result};
+use crate::{ffi, Reason, Result};
 
 /// The four types of a data frame.
 #[derive(Clone, Copy, Debug, PartialEq, Eq, Hash)]
@@ -197,10 +197,10 @@ pub fn nwk_id(dev_addr: &[u8; 4]) -> u8 {
 
 /// Reads a frame of at most 255 bytes.
 ///
-/// Refusals, in this order: 12, 1, 2, 3, 4.
+/// Refusals, in this order: 12, 1, 2, 3, 4. Each says where the frame is bad.
 ///
 /// ```
-/// use zinovoky::{read, DataKind, Payload, Reading, Refusal};
+/// use zinovoky::{read, DataKind, Payload, Reading, Reason, Refusal};
 /// let frame = [0x40, 4, 3, 2, 1, 0x80, 5, 0, 0, 0xaa, 0x11, 0x22, 0x33, 0x44];
 /// let Reading::Data(data) = read(&frame)? else { panic!("another type") };
 /// assert_eq!(data.kind(), DataKind::UnconfirmedUp);
@@ -210,8 +210,8 @@ pub fn nwk_id(dev_addr: &[u8; 4]) -> u8 {
 /// assert_eq!(data.payload(), Payload::Commands(&[0xaa]));
 /// assert_eq!(data.mic(), [0x11, 0x22, 0x33, 0x44]);
 ///
-/// assert_eq!(read(&[]), Err(Refusal::InvalidPayload));
-/// assert_eq!(read(&[0x40; 256]), Err(Refusal::FrameTooLong));
+/// assert_eq!(read(&[]), Err(Reason::InvalidPayload.at(0)));
+/// assert_eq!(read(&[0x40; 256]), Err(Reason::FrameTooLong.at(256)));
 /// # Ok::<(), Refusal>(())
 /// ```
 #[inline]
@@ -223,5 +223,5 @@ pub fn read(frame: &[u8]) -> Result<Reading<'_>> {
             _ => Ok(Reading::JoinAccept { length: frame.len() }),
         };
     };
-    DataFields::new(frame, kind, packed).map(Reading::Data).ok_or(Refusal::InvalidData)
+    DataFields::new(frame, kind, packed).map(Reading::Data).ok_or(Reason::InvalidData.at(0))
 }

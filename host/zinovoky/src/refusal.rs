@@ -1,12 +1,32 @@
-//! Refusals, with the names and numbers of docs/RULES.md.
+//! Refusals: the names and numbers of docs/RULES.md, and where a frame is bad.
 
 use std::error::Error;
 use std::fmt;
 
-/// Why a call was refused. A refused call changes no byte that was lent.
-#[derive(Clone, Copy, Debug, PartialEq, Eq, Hash)]
-#[repr(u8)]
-pub enum Refusal {
+macro_rules! reasons {
+    ($($(#[$doc:meta])* $name:ident = $number:literal,)*) => {
+        /// Why a call was refused.
+        #[derive(Clone, Copy, Debug, PartialEq, Eq, Hash)]
+        #[repr(u8)]
+        pub enum Reason {
+            $($(#[$doc])* $name = $number,)*
+        }
+
+        impl Reason {
+            /// Every reason, in the order of the numbers.
+            pub const ALL: [Reason; 15] = [$(Reason::$name),*];
+
+            /// The name in docs/RULES.md, which is that of the variant.
+            pub const fn name(self) -> &'static str {
+                match self {
+                    $(Reason::$name => stringify!($name),)*
+                }
+            }
+        }
+    };
+}
+
+reasons! {
     /// Fewer than 12 bytes.
     InvalidPayload = 1,
     /// The low two bits of byte 0 are not 00.
@@ -39,72 +59,107 @@ pub enum Refusal {
     OffsetOutside = 15,
 }
 
-impl Refusal {
-    /// Every refusal, in the order of the numbers.
-    pub const ALL: [Refusal; 15] = [
-        Refusal::InvalidPayload,
-        Refusal::UnsupportedMajorVersion,
-        Refusal::InvalidMessageType,
-        Refusal::InvalidData,
-        Refusal::InvalidMic,
-        Refusal::InvalidKey,
-        Refusal::BufferTooShort,
-        Refusal::InvalidChannelList,
-        Refusal::MacCommandTooBigForFOpts,
-        Refusal::DataAndMacCommandsInPayloadNotAllowed,
-        Refusal::FRMPayloadWithFportZero,
-        Refusal::FrameTooLong,
-        Refusal::FOptsLenSet,
-        Refusal::CounterMismatch,
-        Refusal::OffsetOutside,
-    ];
-
+impl Reason {
     /// The number, 1 to 15.
     ///
     /// ```
-    /// use zinovoky::Refusal;
-    /// assert_eq!(Refusal::FrameTooLong.number(), 12);
-    /// for (place, refusal) in Refusal::ALL.into_iter().enumerate() {
-    ///     assert_eq!(usize::from(refusal.number()), place + 1);
+    /// use zinovoky::Reason;
+    /// assert_eq!(Reason::FrameTooLong.number(), 12);
+    /// for (index, reason) in Reason::ALL.into_iter().enumerate() {
+    ///     assert_eq!(usize::from(reason.number()), index + 1);
     /// }
     /// ```
     pub const fn number(self) -> u8 {
         self as u8
     }
 
-    /// The refusal with this number, if there is one.
+    /// The reason with this number, if there is one.
     ///
     /// ```
-    /// use zinovoky::Refusal;
-    /// assert_eq!(Refusal::from_number(5), Some(Refusal::InvalidMic));
-    /// assert_eq!(Refusal::from_number(0), None);
-    /// assert_eq!(Refusal::from_number(16), None);
+    /// use zinovoky::Reason;
+    /// assert_eq!(Reason::from_number(5), Some(Reason::InvalidMic));
+    /// assert_eq!(Reason::from_number(0), None);
+    /// assert_eq!(Reason::from_number(16), None);
     /// ```
     #[inline]
-    pub fn from_number(number: u8) -> Option<Refusal> {
+    pub fn from_number(number: u8) -> Option<Reason> {
         Self::ALL.get(usize::from(number).checked_sub(1)?).copied()
+    }
+
+    /// The refusal for this reason at that place.
+    #[inline]
+    pub const fn at(self, place: usize) -> Refusal {
+        Refusal { reason: self, place }
+    }
+}
+
+/// What a refused call answers: why, and where the frame is bad. It changed no byte that was lent.
+///
+/// Reading names the place, and every call that reads a frame first hands it on:
+///
+/// | Reason | Place |
+/// |---|---|
+/// | `FrameTooLong`, `InvalidPayload` | the frame's length |
+/// | `UnsupportedMajorVersion`, `InvalidMessageType` | 0, the byte at fault |
+/// | `InvalidData` of a join message of another length | the frame's length |
+/// | `InvalidData` of a data frame whose header does not fit | 5, the byte at fault |
+/// | `InvalidData` of a frame of another type than the call needs | 0, for none |
+/// | `FrameTooLong` of a frame to build, and all others | 0, for none |
+///
+/// Its text says what the place is:
+///
+/// ```
+/// use zinovoky::{read, Reason};
+/// let refusal = read(&[0x40; 11]).unwrap_err();
+/// assert_eq!(refusal.reason, Reason::InvalidPayload);
+/// assert_eq!((refusal.number(), refusal.name(), refusal.place), (1, "InvalidPayload", 11));
+/// assert_eq!(refusal.to_string(), "InvalidPayload: 11 bytes, fewer than 12");
+///
+/// let refusal = read(&[0x40, 0, 0, 0, 0, 1, 0, 0, 0, 0, 0, 0]).unwrap_err();
+/// assert_eq!(refusal.to_string(), "InvalidData: the header does not fit, byte 5");
+/// ```
+#[derive(Clone, Copy, Debug, PartialEq, Eq, Hash)]
+pub struct Refusal {
+    pub reason: Reason,
+    pub place: usize,
+}
+
+impl Refusal {
+    /// The number, 1 to 15.
+    pub const fn number(self) -> u8 {
+        self.reason.number()
+    }
+
+    /// The name in docs/RULES.md.
+    pub const fn name(self) -> &'static str {
+        self.reason.name()
     }
 }
 
 impl fmt::Display for Refusal {
     fn fmt(&self, f: &mut fmt::Formatter) -> fmt::Result {
-        f.write_str(match self {
-            Refusal::InvalidPayload => "fewer than 12 bytes",
-            Refusal::UnsupportedMajorVersion => "the low two bits of byte 0 are not 00",
-            Refusal::InvalidMessageType => "a frame of type 6 or 7",
-            Refusal::InvalidData => "a length that is wrong for the type, or a frame of another type",
-            Refusal::InvalidMic => "the MIC differs",
-            Refusal::InvalidKey => "the key that the port selects was not given",
-            Refusal::BufferTooShort => "no room for the answer",
-            Refusal::InvalidChannelList => "over five channels, or one above 16,777,215",
-            Refusal::MacCommandTooBigForFOpts => "commands over 15 bytes that are not for port 0",
-            Refusal::DataAndMacCommandsInPayloadNotAllowed => "port 0 and a payload",
-            Refusal::FRMPayloadWithFportZero => "a payload without a port",
-            Refusal::FrameTooLong => "a frame over 255 bytes",
-            Refusal::FOptsLenSet => "an FCtrl with a low nibble that is not 0",
-            Refusal::CounterMismatch => "a counter that is not the frame's",
-            Refusal::OffsetOutside => "an offset at or past the payload's length",
-        })
+        use Reason::*;
+        write!(f, "{}: ", self.name())?;
+        match (self.reason, self.place) {
+            (InvalidPayload, length) => write!(f, "{length} bytes, fewer than 12"),
+            (UnsupportedMajorVersion, byte) => write!(f, "the low two bits are not 00, byte {byte}"),
+            (InvalidMessageType, byte) => write!(f, "type 6 or 7, byte {byte}"),
+            (InvalidData, 0) => f.write_str("a frame of another type than the call needs"),
+            (InvalidData, 5) => f.write_str("the header does not fit, byte 5"),
+            (InvalidData, length) => write!(f, "a join message of {length} bytes"),
+            (FrameTooLong, 0) => f.write_str("a frame to build of more than 255 bytes"),
+            (FrameTooLong, length) => write!(f, "{length} bytes, more than 255"),
+            (InvalidMic, _) => f.write_str("the MIC differs"),
+            (InvalidKey, _) => f.write_str("the key that the port selects was not given"),
+            (BufferTooShort, _) => f.write_str("no room for the answer"),
+            (InvalidChannelList, _) => f.write_str("over five channels, or one above 16,777,215"),
+            (MacCommandTooBigForFOpts, _) => f.write_str("commands over 15 bytes that are not for port 0"),
+            (DataAndMacCommandsInPayloadNotAllowed, _) => f.write_str("port 0 and a payload"),
+            (FRMPayloadWithFportZero, _) => f.write_str("a payload without a port"),
+            (FOptsLenSet, _) => f.write_str("an FCtrl with a low nibble that is not 0"),
+            (CounterMismatch, _) => f.write_str("a counter that is not the frame's"),
+            (OffsetOutside, _) => f.write_str("an offset at or past the payload's length"),
+        }
     }
 }
 

@@ -96,7 +96,7 @@ fn longest() {
             };
             fields.build(&KEYS.0, &KEYS.1).map(|frame| frame.len())
         };
-        assert_eq!((built(payload), built(payload + 1)), (Ok(255), Err(Refusal::FrameTooLong)));
+        assert_eq!((built(payload), built(payload + 1)), (Ok(255), Err(Reason::FrameTooLong.at(0))));
     }
 }
 
