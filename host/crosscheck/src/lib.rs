@@ -6,10 +6,12 @@ pub mod held;
 pub mod opened;
 pub mod read_back;
 pub mod records;
+pub mod refusals;
 
 use lorawan::keys::CryptoFactory;
 use lorawan::{creator, parser};
 use records::Case;
+use refusals::End;
 
 /// A crypto factory that the crate's builders take.
 pub trait Judge: CryptoFactory + Default {}
@@ -20,9 +22,9 @@ impl<F: CryptoFactory + Default> Judge for F {}
 pub enum Judged {
     /// docs/RULES.md does not hold the two equal here.
     Outside,
-    /// Only the number is due: the crate leaves the caller's bytes changed where ours must stay.
+    /// Only the number is due, without a place: the crate leaves the caller's bytes changed where ours must stay.
     Number(u8),
-    /// The answer whole.
+    /// The answer whole; the place of a refusal is the one that the rules name.
     Whole(Vec<u8>),
 }
 
@@ -47,7 +49,7 @@ pub fn number_of_creator(error: &creator::Error) -> u8 {
     }
 }
 
-/// The frame that a call reads, if it reads one.
+/// The frame that a call reads first, if it reads one.
 fn frame_read(case: &Case) -> Option<&[u8]> {
     match case {
         Case::MicJoinRequest { frame, .. }
@@ -59,9 +61,17 @@ fn frame_read(case: &Case) -> Option<&[u8]> {
         | Case::DecryptJoinAcceptChecked { frame, .. }
         | Case::SessionKeys { frame, .. }
         | Case::Read { frame }
-        | Case::ReadClearJoinAccept { frame } => Some(frame),
-        _ => None,
+        | Case::ReadClearJoinAccept { frame }
+        | Case::ReadJoinRequest { frame } => Some(frame),
+        Case::Amend(call) | Case::AmendLent(call) => Some(&call.frame),
+        Case::Hold(call) => Some(&call.frame),
+        Case::BuildJoinRequest(_) | Case::BuildJoinAccept(_) | Case::BuildData(_) => None,
     }
+}
+
+/// What a call ends in by its number: the place is the one that the rules name.
+pub fn end_due(case: &Case, number: u8) -> End {
+    End::on(frame_read(case).unwrap_or(&[]), number)
 }
 
 /// The crate's answer, where equality is due.
@@ -88,6 +98,8 @@ pub fn judge<F: Judge>(case: &Case) -> Judged {
         Case::Amend(call) => amended::opening::<F>(call),
         Case::Read { frame } => opened::read::<F>(frame),
         Case::ReadClearJoinAccept { frame } => opened::read_clear_join_accept::<F>(frame),
+        Case::ReadJoinRequest { frame } => opened::read_join_request::<F>(frame),
+        Case::AmendLent(call) => amended::lent::<F>(call),
         Case::Hold(call) => held::opening::<F>(call),
     }
 }
@@ -102,6 +114,7 @@ pub fn read_back<F: Judge>(case: &Case, answer: &[u8]) -> Option<bool> {
         Case::BuildJoinAccept(call) => Some(read_back::join_accept::<F>(call, answer)),
         Case::BuildData(call) => Some(read_back::data::<F>(call, answer)),
         Case::Amend(call) => Some(amended::read_back::<F>(call, answer)),
+        Case::AmendLent(call) => Some(amended::lent_read_back::<F>(call, answer)),
         Case::Hold(call) => Some(held::read_back::<F>(call, answer)),
         _ => None,
     }

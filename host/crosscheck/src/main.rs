@@ -2,12 +2,13 @@
 //! given), then the lists' names (all if none is given). Ends with 1 if there is a difference.
 
 use crosscheck::records::{answers, cases, hex};
-use crosscheck::{judge, read_back, Judge, Judged};
+use crosscheck::refusals::End;
+use crosscheck::{end_due, judge, read_back, Judge, Judged};
 use factory::{OpenSsl, Soft};
 use std::path::{Path, PathBuf};
 use std::{env, fs, process};
 
-const LISTS: [&str; 5] = ["read", "opened", "built", "amended", "held"];
+const LISTS: [&str; 6] = ["read", "opened", "built", "amended", "held", "places"];
 
 #[derive(Default)]
 struct Counts {
@@ -30,11 +31,18 @@ fn compare<F: Judge>(list: &str, folder: &Path) -> Counts {
     assert_eq!(cases.len(), answers.len());
     let mut counts = Counts { cases: cases.len(), ..Counts::default() };
     for (i, (case, ours)) in cases.iter().zip(&answers).enumerate() {
+        let (end, _) = End::split(ours);
         match judge::<F>(case) {
-            Judged::Outside => counts.outside += 1,
+            Judged::Outside => {
+                counts.outside += 1;
+                if end != end_due(case, end.number) {
+                    counts.differences += 1;
+                    differs(list, i, ours, "is no judge, the place is not the one that the rules name");
+                }
+            }
             Judged::Number(number) => {
                 counts.number_only += 1;
-                if ours[0] != number {
+                if end != End::refused(number) {
                     counts.differences += 1;
                     differs(list, i, ours, &format!("{number:02x} (number only)"));
                 }

@@ -1,5 +1,6 @@
 //! The crate on frames: reading, MIC tests, decryption, session keys. Answers are laid out as the oracle lays them out.
 
+use crate::refusals::End;
 use crate::{number_of_parser, Judge, Judged};
 use generic_array::GenericArray;
 use lorawan::keys::{AppKey, Decrypter, AES128};
@@ -50,29 +51,29 @@ fn clear_join_accept<'a, F: Judge>(
     Ok(parsed_join_accept::<F>(frame)?.decrypt(&AppKey::from(key.0)))
 }
 
-fn tested(answer: Result<bool, u8>) -> Judged {
+fn tested(frame: &[u8], answer: Result<bool, u8>) -> Judged {
     Judged::Whole(match answer {
         Ok(yes) => vec![0, yes.into()],
-        Err(number) => vec![number, 0],
+        Err(number) => [End::on(frame, number).bytes(), vec![0]].concat(),
     })
 }
 
 pub fn mic_join_request<F: Judge>(key: &AES128, frame: &[u8]) -> Judged {
-    tested(parsed_join_request::<F>(&mut frame.to_vec()).map(|request| request.validate_mic(key)))
+    tested(frame, parsed_join_request::<F>(&mut frame.to_vec()).map(|request| request.validate_mic(key)))
 }
 
 pub fn mic_join_accept<F: Judge>(key: &AES128, frame: &[u8]) -> Judged {
-    let mut frame = frame.to_vec();
-    tested(clear_join_accept::<F>(&mut frame, key).map(|clear| clear.validate_mic(&AppKey::from(key.0))))
+    let mut copy = frame.to_vec();
+    tested(frame, clear_join_accept::<F>(&mut copy, key).map(|clear| clear.validate_mic(&AppKey::from(key.0))))
 }
 
 pub fn mic_data<F: Judge>(key: &AES128, counter: u32, frame: &[u8]) -> Judged {
-    tested(parsed_data::<F>(&mut frame.to_vec()).map(|data| data.validate_mic(key, counter)))
+    tested(frame, parsed_data::<F>(&mut frame.to_vec()).map(|data| data.validate_mic(key, counter)))
 }
 
-/// The number, then the caller's bytes as they stand afterwards.
+/// How the call ended, then the caller's bytes as they stand afterwards.
 fn with_frame(answer: Result<(), u8>, frame: Vec<u8>) -> Judged {
-    let mut whole = vec![answer.err().unwrap_or(0)];
+    let mut whole = End::on(&frame, answer.err().unwrap_or(0)).bytes();
     whole.extend(frame);
     Judged::Whole(whole)
 }
@@ -132,9 +133,9 @@ pub fn decrypt_join_accept_checked<F: Judge>(key: &AES128, frame: &[u8]) -> Judg
 }
 
 pub fn session_keys<F: Judge>(key: &AES128, dev_nonce: [u8; 2], frame: &[u8]) -> Judged {
-    let mut frame = frame.to_vec();
-    Judged::Whole(match clear_join_accept::<F>(&mut frame, key) {
-        Err(number) => [&[number][..], &[0; 32]].concat(),
+    let mut copy = frame.to_vec();
+    Judged::Whole(match clear_join_accept::<F>(&mut copy, key) {
+        Err(number) => [End::on(frame, number).bytes(), vec![0; 32]].concat(),
         Ok(clear) => {
             let (key, nonce) = (AppKey::from(key.0), DevNonce::from(dev_nonce));
             let network = clear.derive_newskey(&nonce, &key);
@@ -172,15 +173,25 @@ fn read_data<F: Judge>(data: Data<F>, mtype: u8) -> Vec<u8> {
     out
 }
 
+fn request_fields<F: Judge>(request: &JoinRequestPayload<&mut [u8], F>) -> Vec<u8> {
+    let (app, dev, nonce) = (request.app_eui(), request.dev_eui(), request.dev_nonce());
+    [app.as_ref(), dev.as_ref(), nonce.as_ref(), &request.mic().0[..]].concat()
+}
+
+pub fn read_join_request<F: Judge>(frame: &[u8]) -> Judged {
+    let mut copy = frame.to_vec();
+    Judged::Whole(match parsed_join_request::<F>(&mut copy) {
+        Err(number) => End::on(frame, number).bytes(),
+        Ok(request) => [vec![0], request_fields(&request)].concat(),
+    })
+}
+
 pub fn read<F: Judge>(frame: &[u8]) -> Judged {
     let mtype = frame.first().map_or(0, |first| first >> 5);
     let mut copy = frame.to_vec();
     Judged::Whole(match parsed::<F>(&mut copy) {
-        Err(number) => vec![number],
-        Ok(PhyPayload::JoinRequest(request)) => {
-            let (app, dev, nonce) = (request.app_eui(), request.dev_eui(), request.dev_nonce());
-            [&[0, mtype], app.as_ref(), dev.as_ref(), nonce.as_ref(), &request.mic().0[..]].concat()
-        }
+        Err(number) => End::on(frame, number).bytes(),
+        Ok(PhyPayload::JoinRequest(request)) => [vec![0, mtype], request_fields(&request)].concat(),
         Ok(PhyPayload::JoinAccept(accept)) => vec![0, mtype, accept.as_bytes().len() as u8],
         Ok(PhyPayload::Data(DataPayload::Encrypted(data))) => read_data(data, mtype),
         Ok(PhyPayload::Data(DataPayload::Decrypted(_))) => unreachable!("the parser decrypts nothing"),
@@ -199,9 +210,9 @@ fn listed(list: Option<CfList>) -> Vec<u8> {
 }
 
 pub fn read_clear_join_accept<F: Judge>(frame: &[u8]) -> Judged {
-    let mut frame = frame.to_vec();
-    Judged::Whole(match clear_join_accept::<F>(&mut frame, &AES128([7; 16])) {
-        Err(number) => vec![number],
+    let mut copy = frame.to_vec();
+    Judged::Whole(match clear_join_accept::<F>(&mut copy, &AES128([7; 16])) {
+        Err(number) => End::on(frame, number).bytes(),
         Ok(clear) => {
             let numbers = [clear.dl_settings().raw_value(), clear.rx_delay()];
             let (nonce, net, addr) = (clear.app_nonce(), clear.net_id(), clear.dev_addr());

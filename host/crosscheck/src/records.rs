@@ -35,6 +35,7 @@ pub struct BuildData {
     pub room: usize,
 }
 
+/// Amendments one by one, or as a list, whose offsets have 24 bits.
 pub struct Amend {
     pub network: AES128,
     pub application: AES128,
@@ -75,6 +76,8 @@ pub enum Case {
     Read { frame: Vec<u8> },
     ReadClearJoinAccept { frame: Vec<u8> },
     Hold(Hold),
+    ReadJoinRequest { frame: Vec<u8> },
+    AmendLent(Amend),
 }
 
 /// Takes a record's body apart from the front.
@@ -136,13 +139,17 @@ impl<'a> Body<'a> {
         (0..count).map(|_| (self.u32(), self.u8())).collect()
     }
 
+    fn list(&mut self) -> Vec<(u32, u8)> {
+        let count = self.u16();
+        let listed = |number: u32| (number >> 8, number as u8);
+        (0..count).map(|_| listed(self.u32())).collect()
+    }
+
     fn held_call(&mut self) -> HeldCall {
         if self.u8() == 0 {
             return HeldCall { list: false, amendments: vec![(self.u32(), self.u8())] };
         }
-        let count = self.u16();
-        let listed = |number: u32| (number >> 8, number as u8);
-        HeldCall { list: true, amendments: (0..count).map(|_| listed(self.u32())).collect() }
+        HeldCall { list: true, amendments: self.list() }
     }
 
     fn history(&mut self) -> Vec<HeldCall> {
@@ -190,14 +197,14 @@ fn build_data(b: &mut Body) -> Case {
     })
 }
 
-fn amend(b: &mut Body) -> Case {
-    Case::Amend(Amend {
+fn amend<'a>(b: &mut Body<'a>, amendments: fn(&mut Body<'a>) -> Vec<(u32, u8)>) -> Amend {
+    Amend {
         network: b.key(),
         application: b.key(),
         counter: b.u32(),
         frame: b.bytes(),
-        amendments: b.amendments(),
-    })
+        amendments: amendments(b),
+    }
 }
 
 fn hold(b: &mut Body) -> Case {
@@ -233,10 +240,12 @@ fn case(body: &[u8]) -> Case {
         9 => build_join_request(b),
         10 => build_join_accept(b),
         11 => build_data(b),
-        12 => amend(b),
+        12 => Case::Amend(amend(b, Body::amendments)),
         13 => Case::Read { frame: b.bytes() },
         14 => Case::ReadClearJoinAccept { frame: b.bytes() },
         15 => hold(b),
+        16 => Case::ReadJoinRequest { frame: b.bytes() },
+        17 => Case::AmendLent(amend(b, Body::list)),
         kind => panic!("a record of kind {kind}"),
     };
     assert!(b.0.is_empty(), "a record that is longer than its fields");

@@ -94,10 +94,11 @@ enum Kind {
     DecryptJoinAcceptChecked,
     SessionKeys,
     ReadClearJoinAccept,
-    Amend,
+    ReadJoinRequest,
+    AmendLent,
 }
 
-const FRAME_CALLS: [Kind; 10] = [
+const FRAME_CALLS: [Kind; 11] = [
     Kind::MicJoinRequest,
     Kind::MicJoinAccept,
     Kind::MicData,
@@ -107,7 +108,8 @@ const FRAME_CALLS: [Kind; 10] = [
     Kind::DecryptJoinAcceptChecked,
     Kind::SessionKeys,
     Kind::ReadClearJoinAccept,
-    Kind::Amend,
+    Kind::ReadJoinRequest,
+    Kind::AmendLent,
 ];
 
 /// A call on that frame, under keys and a counter that have nothing to do with it.
@@ -126,9 +128,10 @@ fn with_frame(random: &mut Random, kind: Kind, frame: Vec<u8>) -> Case {
         Kind::DecryptJoinAcceptChecked => Case::DecryptJoinAcceptChecked { app_key: key, frame },
         Kind::SessionKeys => Case::SessionKeys { app_key: key, dev_nonce: random.array(), frame },
         Kind::ReadClearJoinAccept => Case::ReadClearJoinAccept { frame },
-        Kind::Amend => {
-            let amendments = amendments(random, &frame);
-            Case::Amend(Amend { network: key, application: random.key(), counter, frame, amendments })
+        Kind::ReadJoinRequest => Case::ReadJoinRequest { frame },
+        Kind::AmendLent => {
+            let amendments = listed(amendments(random, &frame));
+            Case::AmendLent(Amend { network: key, application: random.key(), counter, frame, amendments })
         }
     }
 }
@@ -149,6 +152,11 @@ fn amendments(random: &mut Random, frame: &[u8]) -> Vec<(u32, u8)> {
             (offset, random.byte())
         })
         .collect()
+}
+
+/// The same as a list, whose offsets go over in 24 bits.
+fn listed(amendments: Vec<(u32, u8)>) -> Vec<(u32, u8)> {
+    amendments.into_iter().map(|(offset, value)| (offset & 0xff_ffff, value)).collect()
 }
 
 /// A data frame with a good MIC under that key and counter, or a damaged copy of one.
@@ -177,21 +185,19 @@ fn on_data(random: &mut Random) -> Case {
         },
         2 => Case::DecryptDataChecked { network, application: given(random).then_some(application), counter, frame },
         _ => {
-            let amendments = amendments(random, &frame);
-            Case::Amend(Amend { network, application, counter, frame, amendments })
+            let amendments = listed(amendments(random, &frame));
+            Case::AmendLent(Amend { network, application, counter, frame, amendments })
         }
     }
 }
 
-/// One amendment, or a list of up to eight, whose offsets go over in 24 bits.
+/// One amendment, or a list of up to eight.
 fn held_call(random: &mut Random, frame: &[u8]) -> HeldCall {
-    let mut drawn = amendments(random, frame);
-    let list = random.one_in(2) || drawn.is_empty();
-    match list {
-        true => drawn.iter_mut().for_each(|(offset, _)| *offset &= 0xff_ffff),
-        false => drawn.truncate(1),
+    let drawn = amendments(random, frame);
+    if random.one_in(2) || drawn.is_empty() {
+        return HeldCall { list: true, amendments: listed(drawn) };
     }
-    HeldCall { list, amendments: drawn }
+    HeldCall { list: false, amendments: drawn[..1].to_vec() }
 }
 
 /// Up to six calls on that frame; room for it mostly, and now and then too little, just enough or more.
@@ -223,13 +229,14 @@ fn on_join(random: &mut Random) -> Case {
         _ => frames::join_accept(random, &app_key),
     };
     let frame = frames::damaged(random, frame);
-    match random.below(7) {
+    match random.below(8) {
         0 => Case::MicJoinRequest { app_key, frame },
         1 => Case::MicJoinAccept { app_key, frame },
         2 => Case::DecryptJoinAccept { app_key, frame },
         3 => Case::DecryptJoinAcceptChecked { app_key, frame },
         4 => Case::SessionKeys { app_key, dev_nonce: random.array(), frame },
         5 => Case::Read { frame },
+        6 => Case::ReadJoinRequest { frame },
         _ => Case::ReadClearJoinAccept { frame },
     }
 }

@@ -3,7 +3,8 @@
 use crate::encode::encode;
 use crate::port::{answer, refused};
 use crosscheck::records::{hex, Amend, BuildData, BuildJoinAccept, Case, Hold};
-use crosscheck::{amended, held, judge, read_back, Judged};
+use crosscheck::refusals::End;
+use crosscheck::{end_due, held, judge, read_back, Judged};
 use factory::OpenSsl;
 use lorawan::keys::AES128;
 
@@ -57,32 +58,10 @@ fn past_the_frame_stays(case: &Case, ours: &[u8]) -> bool {
     }
 }
 
-/// The crate's word on an amendment, or none if its number was as due.
-fn amendment_differs(call: &Amend, ours: &[u8]) -> Option<String> {
-    let theirs = match amended::opening::<OpenSsl>(call) {
-        Judged::Outside => 12,
-        Judged::Number(_) => {
-            let payload = call.frame.len().saturating_sub(13 + usize::from(call.frame[5] % 16));
-            let outside = call.amendments.iter().any(|&(offset, _)| offset as usize >= payload);
-            if outside {
-                15
-            } else {
-                0
-            }
-        }
-        Judged::Whole(answer) => answer[0],
-    };
-    if ours[0] != theirs {
-        return Some(format!("{theirs:02x}"));
-    }
-    let accepted = [&vec![0; 1 + call.amendments.len()], &ours[1..]].concat();
-    (theirs == 0 && !amended::read_back::<OpenSsl>(call, &accepted)).then(|| "reads it otherwise".into())
-}
-
-/// The same history as one list of its accepted amendments, made on the frame as bytes: number and frame.
-fn made_at_once(call: &Hold, numbers: &[u8]) -> Vec<u8> {
-    let accepted = call.calls.iter().zip(numbers).filter(|(_, &number)| number == 0);
-    answer(&Case::Amend(Amend {
+/// The same history as one list of its accepted amendments, made on the frame as bytes: its end and the frame.
+fn made_at_once(call: &Hold, ends: &[End]) -> Vec<u8> {
+    let accepted = call.calls.iter().zip(ends).filter(|(_, &end)| end == End::ACCEPTED);
+    answer(&Case::AmendLent(Amend {
         network: AES128(call.network.0),
         application: AES128(call.application.0),
         counter: call.counter,
@@ -92,23 +71,24 @@ fn made_at_once(call: &Hold, numbers: &[u8]) -> Vec<u8> {
 }
 
 /// What the crate, or the call on the frame as bytes, says to a history on a frame held open; none if the same.
-fn holding_differs(call: &Hold, ours: &[u8]) -> Option<String> {
-    let theirs = match held::opening::<OpenSsl>(call) {
-        Judged::Outside => 12,
+fn holding_differs(case: &Case, call: &Hold, ours: &[u8]) -> Option<String> {
+    let number = match judge::<OpenSsl>(case) {
+        Judged::Outside => number_outside(case),
         Judged::Number(number) => number,
         Judged::Whole(answer) => answer[0],
     };
-    if ours[0] != theirs {
-        return Some(format!("{theirs:02x}"));
+    let due = end_due(case, number);
+    if End::split(ours).0 != due {
+        return Some(hex(&due.bytes()));
     }
-    if theirs != 0 {
+    if number != 0 {
         return None;
     }
     if !held::read_back::<OpenSsl>(call, ours) {
         return Some("reads it otherwise".into());
     }
-    let (numbers, taken) = ours[1..].split_at(call.calls.len());
-    let at_once = made_at_once(call, numbers);
+    let (ends, taken) = End::split_all(&ours[1..], call.calls.len());
+    let at_once = made_at_once(call, &ends);
     let same = at_once[0] == 0 && (taken[0] != 0 || taken[3..].starts_with(&at_once[1..]));
     (!same).then(|| format!("is no judge, one list gives {}", hex(&at_once)))
 }
@@ -125,12 +105,13 @@ impl Tally {
         match judge::<OpenSsl>(case) {
             Judged::Outside => {
                 self.outside += 1;
-                let due = number_outside(case);
-                (ours[0] != due).then(|| format!("is no judge here, {due:02x} is due"))
+                let due = end_due(case, number_outside(case));
+                (End::split(ours).0 != due).then(|| format!("is no judge here, {} is due", hex(&due.bytes())))
             }
             Judged::Number(number) => {
                 self.by_number += 1;
-                (ours[0] != number).then(|| format!("{number:02x}"))
+                let due = End::refused(number);
+                (End::split(ours).0 != due).then(|| hex(&due.bytes()))
             }
             Judged::Whole(theirs) => {
                 self.whole += 1;
@@ -146,21 +127,13 @@ impl Tally {
             eprintln!("{} cases, {} differences so far", self.cases, self.differences);
         }
         let ours = answer(case);
-        if ours[0] != 0 && ours != refused(case, ours[0]) {
+        if ours[0] != 0 && ours != refused(case, End::split(&ours).0) {
             self.differs(case, &ours, "(a refusal that is not bare)");
-        }
-        if let Case::Amend(call) = case {
-            self.by_number += 1;
-            self.read_back += usize::from(ours[0] == 0);
-            if let Some(says) = amendment_differs(call, &ours) {
-                self.differs(case, &ours, &says);
-            }
-            return;
         }
         if let Case::Hold(call) = case {
             self.by_number += 1;
             self.read_back += usize::from(ours[0] == 0);
-            if let Some(says) = holding_differs(call, &ours) {
+            if let Some(says) = holding_differs(case, call, &ours) {
                 self.differs(case, &ours, &says);
             }
             return;

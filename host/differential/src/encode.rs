@@ -41,23 +41,29 @@ fn data(call: &BuildData) -> Vec<u8> {
     [&head[..], &bytes(&call.commands), &bytes(&call.payload), &keys, &room(call.room)].concat()
 }
 
-fn amend(call: &Amend) -> Vec<u8> {
+/// The amendments stand behind what opens the frame.
+fn amend(kind: u8, call: &Amend, amendments: Vec<u8>) -> Vec<u8> {
     let keys = [call.network.0, call.application.0].concat();
-    let mut list = (call.amendments.len() as u16).to_le_bytes().to_vec();
-    for (offset, value) in &call.amendments {
-        list.extend(offset.to_le_bytes());
-        list.push(*value);
-    }
-    [&[12], &keys[..], &call.counter.to_le_bytes(), &bytes(&call.frame), &list].concat()
+    [&[kind], &keys[..], &call.counter.to_le_bytes(), &bytes(&call.frame), &amendments].concat()
+}
+
+fn amendments(amendments: &[(u32, u8)]) -> Vec<u8> {
+    let count = (amendments.len() as u16).to_le_bytes();
+    let each = amendments.iter().flat_map(|&(offset, value)| offset.to_le_bytes().into_iter().chain([value]));
+    count.into_iter().chain(each).collect()
+}
+
+fn list(amendments: &[(u32, u8)]) -> Vec<u8> {
+    let count = (amendments.len() as u16).to_le_bytes();
+    let numbers = amendments.iter().flat_map(|&(offset, value)| (offset << 8 | u32::from(value)).to_le_bytes());
+    count.into_iter().chain(numbers).collect()
 }
 
 fn held_call(call: &HeldCall) -> Vec<u8> {
     if let (false, [(offset, value)]) = (call.list, &call.amendments[..]) {
         return [&[0], &offset.to_le_bytes()[..], &[*value]].concat();
     }
-    let count = (call.amendments.len() as u16).to_le_bytes();
-    let numbers = call.amendments.iter().flat_map(|&(offset, value)| (offset << 8 | u32::from(value)).to_le_bytes());
-    [1].into_iter().chain(count).chain(numbers).collect()
+    [vec![1], list(&call.amendments)].concat()
 }
 
 fn hold(call: &Hold) -> Vec<u8> {
@@ -89,10 +95,12 @@ pub fn encode(case: &Case) -> Vec<u8> {
         Case::BuildJoinRequest(call) => join_request(call),
         Case::BuildJoinAccept(call) => join_accept(call),
         Case::BuildData(call) => data(call),
-        Case::Amend(call) => amend(call),
+        Case::Amend(call) => amend(12, call, amendments(&call.amendments)),
         Case::Read { frame } => [&[13], &bytes(frame)[..]].concat(),
         Case::ReadClearJoinAccept { frame } => [&[14], &bytes(frame)[..]].concat(),
         Case::Hold(call) => hold(call),
+        Case::ReadJoinRequest { frame } => [&[16], &bytes(frame)[..]].concat(),
+        Case::AmendLent(call) => amend(17, call, list(&call.amendments)),
     }
 }
 

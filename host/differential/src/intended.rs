@@ -31,9 +31,11 @@ fn said(call: impl FnOnce() -> String + panic::UnwindSafe) -> String {
     panic::catch_unwind(call).unwrap_or_else(|_| "panics".into())
 }
 
+/// The number, the place where there is one, and whether a byte was changed.
 fn refused<T>(answer: port::Result<T>, unchanged: bool) -> String {
-    let number = answer.err().map_or(0, port::Refusal::number);
-    format!("{number}, {}", if unchanged { "unchanged" } else { "changed" })
+    let (number, place) = answer.err().map_or((0, 0), |refusal| (refusal.number(), refusal.place));
+    let at = if place == 0 { String::new() } else { format!(" at {place}") };
+    format!("{number}{at}, {}", if unchanged { "unchanged" } else { "changed" })
 }
 
 const LISTED: port::JoinAccept = port::JoinAccept {
@@ -85,7 +87,7 @@ fn long_frame() -> Shown {
         Ok(data) => format!("accepts {} bytes", data.as_data_bytes().len()),
         Err(number) => format!("{number}"),
     };
-    shown(crate_says, refused(port::read(&frame), true), "accepts 256 bytes", "12, unchanged")
+    shown(crate_says, refused(port::read(&frame), true), "accepts 256 bytes", "12 at 256, unchanged")
 }
 
 const KEYS: ([u8; 16], [u8; 16]) = ([2; 16], [1; 16]);
@@ -314,10 +316,26 @@ fn network_of_an_address() -> Shown {
     shown(format!("{theirs}"), ours, "0", "2")
 }
 
+/// The crate says why it refuses, and not where the frame is bad.
+fn place_of_a_refusal() -> Shown {
+    let frames = [&[0; 11][..], &[0; 22], &[0x40, 0, 0, 0, 0, 1, 0, 0, 0, 0, 0, 0]];
+    let crate_says = frames.map(|frame| match parse_with_factory(frame.to_vec(), OpenSsl) {
+        Ok(_) => "accepts".into(),
+        Err(error) => format!("{error:?}"),
+    });
+    let port_says = frames.map(|frame| refused(port::read(frame), true));
+    shown(
+        crate_says.join(", "),
+        port_says.join("; "),
+        "InvalidPayload, InvalidData, InvalidData",
+        "1 at 11, unchanged; 4 at 22, unchanged; 4 at 5, unchanged",
+    )
+}
+
 type Difference = (&'static str, fn() -> Shown);
 
 /// In the order of the numbers of the document's rows.
-const ALL: [Difference; 17] = [
+const ALL: [Difference; 18] = [
     ("a join-accept with a channel list", channel_list),
     ("a frame of 256 bytes, read", long_frame),
     ("a frame of 256 bytes, built into 256", long_building),
@@ -335,6 +353,7 @@ const ALL: [Difference; 17] = [
     ("a channel list into 17 bytes", list_into_seventeen),
     ("a frame of 256 bytes, built into 255", long_building_into_255),
     ("NwkID of an address", network_of_an_address),
+    ("the place of a refusal", place_of_a_refusal),
 ];
 
 /// Shows each and gives how many are not as written.

@@ -1,6 +1,7 @@
 //! The port on a case, its answer laid out as the oracle lays it out. Whatever is lent lies between guard bytes.
 
 use crosscheck::records::{Amend, BuildData, BuildJoinAccept, BuildJoinRequest, Case, HeldCall, Hold};
+use crosscheck::refusals::End;
 use lorawan::keys::AES128;
 use zinovoky::*;
 
@@ -18,23 +19,28 @@ fn lent<T>(bytes: &[u8], call: impl FnOnce(&mut [u8]) -> T) -> (T, Vec<u8>) {
     (answer, held[GUARD.len()..end].to_vec())
 }
 
-fn number<T>(answer: &Result<T>) -> u8 {
-    answer.as_ref().err().map_or(0, |refusal| refusal.number())
+/// A refusal as the port says it, number and place.
+fn refusal(refusal: Refusal) -> End {
+    End { number: refusal.number(), place: refusal.place as u64 }
+}
+
+fn end<T>(answer: &Result<T>) -> End {
+    answer.as_ref().err().map_or(End::ACCEPTED, |&why| refusal(why))
 }
 
 fn tested(answer: Result<bool>) -> Vec<u8> {
-    vec![number(&answer), answer.unwrap_or(false).into()]
+    [end(&answer).bytes(), vec![answer.unwrap_or(false).into()]].concat()
 }
 
 fn changed(frame: &[u8], call: impl FnOnce(&mut [u8]) -> Result<()>) -> Vec<u8> {
     let (answer, frame) = lent(frame, call);
-    [&[number(&answer)], &frame[..]].concat()
+    [end(&answer).bytes(), frame].concat()
 }
 
 fn built(room: usize, call: impl FnOnce(&mut [u8]) -> Result<usize>) -> Vec<u8> {
     let (answer, slice) = lent(&vec![FILL; room], call);
     let length = (answer.unwrap_or(0) as u16).to_le_bytes();
-    [&[number(&answer)], &length[..], &slice].concat()
+    [&end(&answer).bytes()[..], &length, &slice].concat()
 }
 
 fn place(frame: &[u8], part: &[u8]) -> [u8; 2] {
@@ -60,10 +66,21 @@ fn data_read(frame: &[u8], data: &DataFields) -> Vec<u8> {
     out
 }
 
+fn request_fields(fields: &JoinRequestFields) -> Vec<u8> {
+    [&fields.app_eui[..], &fields.dev_eui, &fields.dev_nonce, &fields.mic].concat()
+}
+
+fn request_reading(frame: &[u8]) -> Vec<u8> {
+    match JoinRequestFields::read(frame) {
+        Err(why) => refusal(why).bytes(),
+        Ok(fields) => [vec![0], request_fields(&fields)].concat(),
+    }
+}
+
 fn reading(frame: &[u8]) -> Vec<u8> {
     match read(frame) {
-        Err(refusal) => vec![refusal.number()],
-        Ok(Reading::JoinRequest(r)) => [&[0, 0], &r.app_eui[..], &r.dev_eui, &r.dev_nonce, &r.mic].concat(),
+        Err(why) => refusal(why).bytes(),
+        Ok(Reading::JoinRequest(fields)) => [vec![0, 0], request_fields(&fields)].concat(),
         Ok(Reading::JoinAccept { length }) => vec![0, 1, length as u8],
         Ok(Reading::Data(data)) => data_read(frame, &data),
     }
@@ -71,7 +88,7 @@ fn reading(frame: &[u8]) -> Vec<u8> {
 
 fn clear_reading(frame: &[u8]) -> Vec<u8> {
     let clear = match ClearJoinAccept::read(frame) {
-        Err(refusal) => return vec![refusal.number()],
+        Err(why) => return refusal(why).bytes(),
         Ok(clear) => clear,
     };
     let numbers = [clear.dl_settings(), clear.rx_delay()];
@@ -134,42 +151,56 @@ fn listed(amendments: &[(u32, u8)]) -> Vec<Amendment> {
     amendments.iter().map(|&(offset, value)| Amendment::new(offset as usize, value)).collect()
 }
 
-/// The list as a whole: one number, then the frame.
-fn amended(call: &Amend) -> Vec<u8> {
+fn amended_lent(call: &Amend) -> Vec<u8> {
     let (list, keys) = (listed(&call.amendments), (NwkSKey(call.network.0), AppSKey(call.application.0)));
     changed(&call.frame, |frame| amend(frame, &keys.0, &keys.1, call.counter, &list))
 }
 
-fn held_call(open: &mut OpenFrame, call: &HeldCall) -> u8 {
+fn opened(frame: &[u8], network: &AES128, application: &AES128, counter: u32) -> Result<OpenFrame> {
+    OpenFrame::open(frame, &NwkSKey(network.0), &AppSKey(application.0), counter)
+}
+
+/// The opening's end, each amendment's, and the frame. Where the opening is refused there is no open frame.
+fn amended(call: &Amend) -> Vec<u8> {
+    match opened(&call.frame, &call.network, &call.application, call.counter) {
+        Err(why) => refusal(why).bytes(),
+        Ok(mut open) => {
+            let made = call.amendments.iter().flat_map(|&(offset, value)| end(&open.amend(offset as usize, value)).bytes());
+            let ends: Vec<u8> = made.collect();
+            [&[0], &ends[..], &open.frame().expect("room for every frame")].concat()
+        }
+    }
+}
+
+fn held_call(open: &mut OpenFrame, call: &HeldCall) -> End {
     let before = open.frame();
     let answer = match call.amendments[..] {
         [(offset, value)] if !call.list => open.amend(offset as usize, value),
         _ => open.amend_list(&listed(&call.amendments)),
     };
     assert!(answer.is_ok() || open.frame() == before, "a refused amendment changed the frame");
-    number(&answer)
+    end(&answer)
 }
 
-/// The opening's number, each call's, and the frame taken out. Where the opening is refused there is no open frame.
+/// The opening's end, each call's, and the frame taken out. Where the opening is refused there is no open frame.
 fn held(call: &Hold) -> Vec<u8> {
-    let keys = (NwkSKey(call.network.0), AppSKey(call.application.0));
-    match OpenFrame::open(&call.frame, &keys.0, &keys.1, call.counter) {
-        Err(refusal) => vec![refusal.number()],
+    match opened(&call.frame, &call.network, &call.application, call.counter) {
+        Err(why) => refusal(why).bytes(),
         Ok(mut open) => {
-            let numbers: Vec<u8> = call.calls.iter().map(|made| held_call(&mut open, made)).collect();
-            [&[0], &numbers[..], &built(call.room, |slice| open.frame_into(slice))].concat()
+            let ends: Vec<u8> = call.calls.iter().flat_map(|made| held_call(&mut open, made).bytes()).collect();
+            [&[0], &ends[..], &built(call.room, |slice| open.frame_into(slice))].concat()
         }
     }
 }
 
 fn keys(clear: &[u8], dev_nonce: &[u8; 2], app_key: &AES128) -> Vec<u8> {
     match session_keys(clear, dev_nonce, &AppKey(app_key.0)) {
-        Err(refusal) => [&[refusal.number()][..], &[0; 32]].concat(),
+        Err(why) => [refusal(why).bytes(), vec![0; 32]].concat(),
         Ok(keys) => [&[0], &keys.nwk_skey.0[..], &keys.app_skey.0].concat(),
     }
 }
 
-/// The port's answer. Of an amendment: the number of the call, then the frame.
+/// The port's answer.
 pub fn answer(case: &Case) -> Vec<u8> {
     let network = |key: &AES128| NwkSKey(key.0);
     let application = |key: &Option<AES128>| key.as_ref().map(|key| AppSKey(key.0));
@@ -197,24 +228,27 @@ pub fn answer(case: &Case) -> Vec<u8> {
         Case::Read { frame } => reading(frame),
         Case::ReadClearJoinAccept { frame } => clear_reading(frame),
         Case::Hold(call) => held(call),
+        Case::ReadJoinRequest { frame } => request_reading(frame),
+        Case::AmendLent(call) => amended_lent(call),
     }
 }
 
-/// What a refusal must look like: its number, zeros, and the caller's bytes as they were.
-pub fn refused(case: &Case, number: u8) -> Vec<u8> {
-    let with = |rest: &[u8]| [&[number], rest].concat();
-    let slice = |room: usize| [&[number, 0, 0], &vec![FILL; room][..]].concat();
+/// What a refusal must look like: number and place, zeros, and the caller's bytes as they were.
+pub fn refused(case: &Case, end: End) -> Vec<u8> {
+    let with = |rest: &[u8]| [&end.bytes(), rest].concat();
+    let slice = |room: usize| with(&[&[0, 0], &vec![FILL; room][..]].concat());
     match case {
         Case::MicJoinRequest { .. } | Case::MicJoinAccept { .. } | Case::MicData { .. } => with(&[0]),
         Case::DecryptData { frame, .. }
         | Case::DecryptDataChecked { frame, .. }
         | Case::DecryptJoinAccept { frame, .. }
         | Case::DecryptJoinAcceptChecked { frame, .. } => with(frame),
-        Case::Amend(call) => with(&call.frame),
+        Case::AmendLent(call) => with(&call.frame),
         Case::SessionKeys { .. } => with(&[0; 32]),
         Case::BuildJoinRequest(call) => slice(call.room),
         Case::BuildJoinAccept(call) => slice(call.room),
         Case::BuildData(call) => slice(call.room),
-        Case::Read { .. } | Case::ReadClearJoinAccept { .. } | Case::Hold(_) => with(&[]),
+        Case::Read { .. } | Case::ReadClearJoinAccept { .. } | Case::ReadJoinRequest { .. } => with(&[]),
+        Case::Amend(_) | Case::Hold(_) => with(&[]),
     }
 }

@@ -1,6 +1,7 @@
 //! The port on the oracle's lists and on the recorded ones: also where the crate is no judge.
 
 use crosscheck::records::{answers, cases, Case};
+use crosscheck::refusals::End;
 use differential::port::answer;
 use std::path::Path;
 
@@ -12,35 +13,28 @@ fn list(folder: &str, name: &str) -> Vec<(Case, Vec<u8>)> {
     cases.into_iter().zip(answers).collect()
 }
 
-#[test]
-fn read_opened_built() {
-    for folder in ["tools/oracle/out", "host/recorded"] {
-        for name in ["read", "opened", "built"] {
-            for (place, (case, due)) in list(folder, name).iter().enumerate() {
-                assert_eq!(answer(case), *due, "{folder}, {name}, record {place}");
-            }
+/// The safe crate has no open frame where an opening for amendments is refused, so that its answer ends with that refusal.
+fn due_of_the_port(case: &Case, due: Vec<u8>) -> Vec<u8> {
+    match (case, End::split(&due).0) {
+        (Case::Amend(_) | Case::Hold(_), end) if end != End::ACCEPTED => end.bytes(),
+        _ => due,
+    }
+}
+
+fn compared(folder: &str, names: &[&str]) {
+    for name in names {
+        for (place, (case, due)) in list(folder, name).into_iter().enumerate() {
+            assert_eq!(answer(&case), due_of_the_port(&case, due), "{folder}, {name}, record {place}");
         }
     }
 }
 
-/// The lists' answers have a number for each amendment. The C interface makes a list whole or not at all: the first
-/// refusal answers, and then the frame stays.
 #[test]
-fn amended() {
-    for (place, (case, due)) in list("tools/oracle/out", "amended").iter().enumerate() {
-        let Case::Amend(call) = case else { panic!("record {place} is of another kind") };
-        let (numbers, frame) = due.split_at(1 + call.amendments.len());
-        let number = numbers.iter().copied().find(|&number| number != 0).unwrap_or(0);
-        let frame = if number == 0 { frame } else { &call.frame };
-        assert_eq!(answer(case), [&[number], frame].concat(), "record {place}");
-    }
+fn answers_of_the_oracle() {
+    compared("tools/oracle/out", &["read", "opened", "built", "amended", "held", "places"]);
 }
 
-/// The safe crate has no open frame where the opening is refused, so that its answer ends with that number.
 #[test]
-fn held() {
-    for (place, (case, due)) in list("tools/oracle/out", "held").iter().enumerate() {
-        let due = if due[0] == 0 { &due[..] } else { &due[..1] };
-        assert_eq!(answer(case), due, "record {place}");
-    }
+fn answers_of_the_crate() {
+    compared("host/recorded", &["read", "opened", "built"]);
 }

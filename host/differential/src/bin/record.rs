@@ -1,6 +1,7 @@
 //! Records answers of the crate, in the format of tools/oracle: lists `read`, `opened` and `built`, each a case file
 //! (`.stdin`) and the crate's answers (`.stdout`). Arguments: a seed, then the folder to write into. Only answers that
-//! are the crate's whole are kept; amendments are not, since the crate has none.
+//! are the crate's whole are kept; amendments are not, since the crate has none. The place of a refusal is not the
+//! crate's: crosscheck computes it by the rules.
 
 use crosscheck::records::{hex, Case};
 use crosscheck::{judge, Judged};
@@ -51,17 +52,17 @@ fn main() {
     let folder = arguments.next().expect("a folder");
     let mut random = Random::new(seed);
     let mut lists = [List::default(), List::default(), List::default()];
-    let mut kept = [[0; 2]; 15];
+    let mut kept = [[0; 2]; 18];
     for _ in 0..TRIED {
         let case = cases::any(&mut random);
         let Judged::Whole(answer) = judge::<OpenSsl>(&case) else { continue };
         let (kind, refused) = (kind(&case), usize::from(answer[0] != 0));
-        if kind == 12 || kept[kind][refused] == EACH / 2 {
+        if matches!(case, Case::AmendLent(_)) || kept[kind][refused] == EACH / 2 {
             continue;
         }
         kept[kind][refused] += 1;
         let list = match kind {
-            13 | 14 => 0,
+            13 | 14 | 16 => 0,
             9..=11 => 2,
             _ => 1,
         };
