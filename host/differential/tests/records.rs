@@ -31,6 +31,6 @@ fn recorded<F: Judge>(list: &str) -> usize {
 #[test]
 fn recorded_answers() {
     let lists = ["read", "opened", "built"];
-    assert_eq!(lists.map(recorded::<OpenSsl>), [200, 800, 150]);
-    assert_eq!(lists.map(recorded::<Soft>), [200, 800, 150]);
+    assert_eq!(lists.map(recorded::<OpenSsl>), [300, 800, 150]);
+    assert_eq!(lists.map(recorded::<Soft>), [300, 800, 150]);
 }
