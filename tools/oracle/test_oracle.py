@@ -93,15 +93,14 @@ class Documented(unittest.TestCase):
 class Rules(unittest.TestCase):
     """The rows of docs/RULES.md, "Examples"."""
 
-    def number(self, frame):
-        return refusal_of(oracle.read, frame).number
+    def refused(self, *frames):
+        return [refusal_of(oracle.read, frame) for frame in frames]
 
     def test_p1_to_p4(self):
-        self.assertEqual(self.number(b""), 1)
-        self.assertEqual(self.number(frame_of(0x43, 11)), 1)
+        self.assertEqual(self.refused(b"", frame_of(0x43, 11)), [(1, 0), (1, 11)])
         reading = oracle.read(frame_of(0x40, 12, b5=0))
         self.assertEqual((reading.port, reading.payload), (None, None))
-        self.assertEqual(self.number(frame_of(0x40, 12, b5=1)), 4)
+        self.assertEqual(self.refused(frame_of(0x40, 12, b5=1)), [(4, 5)])
 
     def test_p5_to_p7(self):
         reading = oracle.read(frame_of(0x40, 13, b5=1))
@@ -112,11 +111,11 @@ class Rules(unittest.TestCase):
         self.assertEqual((reading.port, reading.payload, reading.commands), (0, (9, 10), True))
 
     def test_p8_to_p13(self):
-        self.assertEqual(self.number(frame_of(0x41, 12)), 2)
-        self.assertEqual(self.number(frame_of(0xC0, 12)), 3)
-        self.assertEqual([self.number(frame_of(0, n)) for n in (22, 23)], [4, 0])
-        self.assertEqual([self.number(frame_of(0x20, n)) for n in (17, 18, 33)], [0, 4, 0])
-        self.assertEqual(self.number(frame_of(0x40, 256)), 12)
+        accepted = oracle.ACCEPTED
+        self.assertEqual(self.refused(frame_of(0x41, 12), frame_of(0xC0, 12)), [(2, 0), (3, 0)])
+        self.assertEqual(self.refused(*(frame_of(0, n) for n in (22, 23))), [(4, 22), accepted])
+        self.assertEqual(self.refused(*(frame_of(0x20, n) for n in (17, 18, 33))), [accepted, (4, 18), accepted])
+        self.assertEqual(self.refused(frame_of(0x40, 256)), [(12, 256)])
         reading = oracle.read(frame_of(0x5C, 12, b5=0))
         self.assertEqual((reading.mtype, reading.port, reading.payload), (2, None, None))
 

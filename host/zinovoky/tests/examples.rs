@@ -9,8 +9,9 @@ fn frame(first: u8, length: usize, set: &[(usize, u8)]) -> Vec<u8> {
     frame
 }
 
-fn number(frame: &[u8]) -> u8 {
-    read(frame).err().map_or(0, Refusal::number)
+/// Number and place.
+fn refusal(frame: &[u8]) -> Option<(u8, usize)> {
+    read(frame).err().map(|refusal| (refusal.number(), refusal.place))
 }
 
 fn data(frame: &[u8]) -> DataFields<'_> {
@@ -22,14 +23,14 @@ fn data(frame: &[u8]) -> DataFields<'_> {
 
 #[test]
 fn refused() {
-    assert_eq!(number(&[]), 1); // P1
-    assert_eq!(number(&frame(0x43, 11, &[])), 1); // P2
-    assert_eq!(number(&frame(0x40, 12, &[(5, 1)])), 4); // P4
-    assert_eq!(number(&frame(0x41, 12, &[])), 2); // P8
-    assert_eq!(number(&frame(0xc0, 12, &[])), 3); // P9
-    assert_eq!([22, 23].map(|length| number(&frame(0x00, length, &[]))), [4, 0]); // P10
-    assert_eq!([17, 18, 33].map(|length| number(&frame(0x20, length, &[]))), [0, 4, 0]); // P11
-    assert_eq!(number(&frame(0x40, 256, &[])), 12); // P12
+    assert_eq!(refusal(&[]), Some((1, 0))); // P1
+    assert_eq!(refusal(&frame(0x43, 11, &[])), Some((1, 11))); // P2
+    assert_eq!(refusal(&frame(0x40, 12, &[(5, 1)])), Some((4, 5))); // P4
+    assert_eq!(refusal(&frame(0x41, 12, &[])), Some((2, 0))); // P8
+    assert_eq!(refusal(&frame(0xc0, 12, &[])), Some((3, 0))); // P9
+    assert_eq!([22, 23].map(|length| refusal(&frame(0x00, length, &[]))), [Some((4, 22)), None]); // P10
+    assert_eq!([17, 18, 33].map(|length| refusal(&frame(0x20, length, &[]))), [None, Some((4, 18)), None]); // P11
+    assert_eq!(refusal(&frame(0x40, 256, &[])), Some((12, 256))); // P12
 }
 
 #[test]
