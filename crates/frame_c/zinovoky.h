@@ -60,7 +60,7 @@ extern "C" {
  * A join message has neither port nor payload, and 0 for FCtrl and FCnt. */
 uint64_t zinovoky_read(const uint8_t *frame, size_t frame_len);
 
-/* The number and the place of a refusal: of a reading, and of every other answer too. Where the number is 0, there is no place. */
+/* The number and the place of a refusal, of a reading and of every other answer. Where the number is 0, there is no place. */
 static inline uint8_t zinovoky_refusal(uint64_t answer) { return (uint8_t)answer; }
 static inline uint64_t zinovoky_refusal_place(uint64_t answer) { return answer >> 8; }
 

@@ -51,17 +51,17 @@ static void read_fields(const struct reading *due, uint64_t reading) {
     field("zinovoky_fcnt", zinovoky_fcnt(reading), due->fcnt);
 }
 
-/* A call on the frame of a row, named after both. */
-static void begin_of(const char *what, const struct reading *due) {
+/* A call that is named with what it is made on. */
+static void begin_of(const char *made, const char *on) {
     static char label[160];
-    snprintf(label, sizeof label, "%s of %s", what, due->what);
+    snprintf(label, sizeof label, "%s of %s", made, on);
     begin(label);
 }
 
 static void readings(void) {
     for (size_t i = 0; i < sizeof READINGS / sizeof *READINGS; i++) {
         const struct reading *due = &READINGS[i];
-        begin_of("zinovoky_read", due);
+        begin_of("zinovoky_read", due->what);
         uint64_t reading = zinovoky_read(lend(due->frame, due->len), due->len);
         ended(reading, due->reading);
         field("zinovoky_refusal", zinovoky_refusal(reading), due->refusal);
@@ -73,8 +73,8 @@ static void readings(void) {
 static void names(void) {
     for (unsigned number = 0; number < 256; number++) {
         const char *due = number < sizeof NAMES / sizeof *NAMES ? NAMES[number] : "unknown";
-        begin(due);
-        ended((uint64_t)strcmp(zinovoky_refusal_name((uint8_t)number), due), 0);
+        begin_of("zinovoky_refusal_name", due);
+        ended(strcmp(zinovoky_refusal_name((uint8_t)number), due) != 0, 0);
     }
 }
 
@@ -256,7 +256,7 @@ static void taking_out(void) {
 /* Every call that reads a frame first answers a refusal of reading as zinovoky_read does, number and place, whatever else it was
  * given: no room for its answer, a counter that is not the frame's. */
 #define FRAME lend(due->frame, due->len), due->len
-#define HANDS_ON(made) (begin_of(#made, due), ended(made, due->reading))
+#define HANDS_ON(made) (begin_of(#made, due->what), ended(made, due->reading))
 
 static void handed_on(const struct reading *due) {
     HANDS_ON(zinovoky_join_request_fields(FRAME, ROOM(0)));

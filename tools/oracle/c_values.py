@@ -22,9 +22,10 @@ FOPTS_COMMANDS, FOPTS_PAYLOAD = b"\2\3", b"twenty bytes of text"
 BARE_FIELDS = oracle.DataFields(False, True, bytes(4), 0, 0, None)
 LONGEST_FIELDS = oracle.DataFields(True, True, bytes.fromhex("04030201"), 0, 1, 1)
 
-NAMES = """none InvalidPayload UnsupportedMajorVersion InvalidMessageType InvalidData InvalidMic InvalidKey BufferTooShort
-    InvalidChannelList MacCommandTooBigForFOpts DataAndMacCommandsInPayloadNotAllowed FRMPayloadWithFportZero FrameTooLong
-    FOptsLenSet CounterMismatch OffsetOutside""".split()
+# By number; 0 refuses nothing.
+NAMES = """none InvalidPayload UnsupportedMajorVersion InvalidMessageType InvalidData InvalidMic InvalidKey
+    BufferTooShort InvalidChannelList MacCommandTooBigForFOpts DataAndMacCommandsInPayloadNotAllowed
+    FRMPayloadWithFportZero FrameTooLong FOptsLenSet CounterMismatch OffsetOutside""".split()
 
 PREAMBLE = """\
 /* Written by tools/oracle/c_values.py, from the rules and over OpenSSL: what every_call.c lends, and what must come of it. */

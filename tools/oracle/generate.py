@@ -646,7 +646,7 @@ def held(seed):
 
 
 def bad_frames(source):
-    """Each refusal of reading: lengths that no frame has, versions, types, lengths that no join message has, headers."""
+    """Each refusal of reading: lengths that no frame has, versions, types, lengths of no join message, headers."""
     for length in (0, 1, 11, 256, 257, 900):
         yield source.bytes(length)
     for first in (0x41, 0x02, 0x23, 0xC0, 0xE0):

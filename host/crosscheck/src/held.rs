@@ -41,8 +41,8 @@ fn make(payload: &mut [u8], made: &HeldCall) -> End {
     End::ACCEPTED
 }
 
-/// An accepted opening: each call ended as is due, the frame is taken out if it fits, and the crate opens it too and finds
-/// in it the original with the accepted calls made.
+/// An accepted opening: each call ended as is due, the frame is taken out if it fits, and the crate opens it too and
+/// finds in it the original with the accepted calls made.
 pub fn read_back<F: Judge>(call: &Hold, answer: &[u8]) -> bool {
     let (ends, out) = End::split_all(&answer[1..], call.calls.len());
     let open = |frame: &[u8]| opened::<F>(frame, &call.network, &call.application, call.counter);

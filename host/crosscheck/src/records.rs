@@ -198,13 +198,7 @@ fn build_data(b: &mut Body) -> Case {
 }
 
 fn amend<'a>(b: &mut Body<'a>, amendments: fn(&mut Body<'a>) -> Vec<(u32, u8)>) -> Amend {
-    Amend {
-        network: b.key(),
-        application: b.key(),
-        counter: b.u32(),
-        frame: b.bytes(),
-        amendments: amendments(b),
-    }
+    Amend { network: b.key(), application: b.key(), counter: b.u32(), frame: b.bytes(), amendments: amendments(b) }
 }
 
 fn hold(b: &mut Body) -> Case {

@@ -55,7 +55,7 @@ impl End {
     }
 }
 
-/// Where the rules refuse to read a frame: its length where that is wrong, else the byte at fault; 0 where they accept it.
+/// Where the rules refuse to read a frame: its length where that is wrong, else the byte at fault; 0 where they accept.
 pub fn bad_at(frame: &[u8]) -> u64 {
     let length = frame.len();
     if !(12..=255).contains(&length) {

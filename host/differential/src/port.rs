@@ -165,8 +165,8 @@ fn amended(call: &Amend) -> Vec<u8> {
     match opened(&call.frame, &call.network, &call.application, call.counter) {
         Err(why) => refusal(why).bytes(),
         Ok(mut open) => {
-            let made = call.amendments.iter().flat_map(|&(offset, value)| end(&open.amend(offset as usize, value)).bytes());
-            let ends: Vec<u8> = made.collect();
+            let made = |&(offset, value): &(u32, u8)| end(&open.amend(offset as usize, value)).bytes();
+            let ends: Vec<u8> = call.amendments.iter().flat_map(made).collect();
             [&[0], &ends[..], &open.frame().expect("room for every frame")].concat()
         }
     }

@@ -13,7 +13,7 @@ fn list(folder: &str, name: &str) -> Vec<(Case, Vec<u8>)> {
     cases.into_iter().zip(answers).collect()
 }
 
-/// The safe crate has no open frame where an opening for amendments is refused, so that its answer ends with that refusal.
+/// The safe crate has no open frame where an opening for amendments is refused: its answer ends with that refusal.
 fn due_of_the_port(case: &Case, due: Vec<u8>) -> Vec<u8> {
     match (case, End::split(&due).0) {
         (Case::Amend(_) | Case::Hold(_), end) if end != End::ACCEPTED => end.bytes(),

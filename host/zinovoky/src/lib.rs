@@ -2,8 +2,9 @@
 //! amendments to the payload of a frame.
 //!
 //! Every call, on any bytes, ends in its result or in a [`Refusal`], which says why and where a frame is bad; a refusal
-//! changes no byte that was lent. Nothing here panics. The work is done by the static library of the crate `frame_c`, where each call is proved to answer as
-//! the definitions written from FIPS 197, RFC 4493 and LoRaWAN 1.0 say; this crate turns its numbers into types.
+//! changes no byte that was lent. Nothing here panics. The work is done by the static library of the crate `frame_c`,
+//! where each call is proved to answer as the definitions written from FIPS 197, RFC 4493 and LoRaWAN 1.0 say; this
+//! crate turns its numbers into types.
 //!
 //! ```
 //! use zinovoky::{decrypt_data_checked, read, AppSKey, Data, DataKind, NwkSKey, Payload, Reading, Refusal};

@@ -1,4 +1,4 @@
-//! Where a frame is bad: every call that reads one hands the place on, and the text of a refusal says what the place is.
+//! Where a frame is bad: every call that reads one hands the place on, and a refusal's text says what the place is.
 
 use zinovoky::*;
 
