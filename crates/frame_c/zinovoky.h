@@ -25,8 +25,8 @@
  *
  *   12, 1   the frame's length
  *    2, 3   0, the byte that holds version and type
- *    4      the frame's length, of a join message; 5, the byte that holds the length of FOpts, of a data frame whose header does
- *           not fit; 0, of a frame that is accepted but of another type than the call needs
+ *    4      the frame's length, of a join message whose length is wrong; 5, the byte that holds the length of FOpts, of a data
+ *           frame whose header does not fit; 0, of a frame that is accepted but of another type than the call needs
  *
  * A refusal that does not come from reading has place 0, so also 12 of a frame to build. Of a frame that was built, or taken out
  * of a buffer, these bytes hold its length.

@@ -1,4 +1,4 @@
-// Kinds 13, 14 and 16: what a frame holds, what a clear join-accept says, and what a join-request does.
+// Kinds 13, 14 and 16: what a frame holds, and what a clear join-accept and a join-request say.
 use crate::input::ROOM;
 use crate::input::copy;
 use crate::input::length_at;
