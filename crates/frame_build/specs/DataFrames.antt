@@ -8,7 +8,8 @@ use lib.Dec.{eqb}
 use lib.ListN.{length, drop}
 use Rattle.base.specs.Bytes.{pick}
 use Rattle.frame_build.specs.DataBuilding.{bodyOf, dataHeader}
-use Rattle.frame.specs.Refusals.{refused}
+use Rattle.frame.specs.Refusals.{refused, notRefused}
+use Rattle.frame.specs.declared.refusals.Refusal.{Refusal}
 use Rattle.frame_security.specs.Sealing.{sealed}
 use Rattle.frame_build.specs.declared.creator.Built.{Built}
 use Rattle.frame_build.specs.declared.creator.Built.the-variants.{Frame, Refused}
@@ -21,6 +22,11 @@ dataFrame nwk app d commands body = sealed nwk app (d .fcnt) (dataHeader d comma
 -- what a building answers: the refusal where there is one (0 says none), else the frame's length
 abbrev pub builtOf : ℕ → ℕ → Built
 builtOf refusal n = pick (eqb refusal 0) (Frame n) (Refused (refused refusal))
+
+-- its refusal, which is none where a frame was built
+abbrev pub builtRefusal : Built → Refusal
+builtRefusal (Frame n) = notRefused
+builtRefusal (Refused r) = r
 
 -- its number (0 where a frame was built), and its value: the frame's length, or the refusal's place
 abbrev pub builtNumber : Built → ℕ

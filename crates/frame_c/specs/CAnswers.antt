@@ -9,7 +9,7 @@ use lib.Dec.{ltb, eqb}
 use Rattle.base.specs.Bytes.{pick}
 use Rattle.frame_build.specs.DataFrames.{outOf, builtOf, builtNumber, builtValue}
 use Rattle.frame_build.specs.declared.creator.Built.{Built}
-use Rattle.frame_opening.specs.FrameOpening.{testNumber, testPlace, openingNumber, openingPlace}
+use Rattle.frame_opening.specs.FrameOpening.{testRefusal, openingRefusal}
 use Rattle.frame_opening.specs.declared.mic_tests.MicTest.{MicTest}
 use Rattle.frame_opening.specs.declared.mic_tests.MicTest.the-variants.{Passes, Fails, Refused}
 use Rattle.frame_opening.specs.declared.payload.Opening.{Opening}
@@ -18,9 +18,13 @@ use Rattle.frame.specs.PackedReading.{numbered}
 use Rattle.frame.specs.declared.refusals.Refusal.{Refusal}
 use Rattle.amend_held.specs.declared.calls.Taken.{Taken}
 
+-- a refusal, or none: amendments to a lent frame
+abbrev pub refusalAnswer : Refusal → ℕ
+refusalAnswer r = numbered (r .number) (r .place)
+
 -- a MIC test
 abbrev pub testAnswer : MicTest → ℕ
-testAnswer t = numbered (testNumber t) (testPlace t)
+testAnswer t = refusalAnswer (testRefusal t)
 
 -- 1 where it passes, 0 where it fails; what was there where it is refused
 abbrev pub passesOf : MicTest → ℕ → ℕ
@@ -30,7 +34,7 @@ passesOf (Refused r) was = was
 
 -- an opening
 abbrev pub openingAnswer : Opening → ℕ
-openingAnswer o = numbered (openingNumber o) (openingPlace o)
+openingAnswer o = refusalAnswer (openingRefusal o)
 
 -- a building: the frame's length, or the number and the place of the refusal
 abbrev pub builtAnswer : Built → ℕ
@@ -45,10 +49,6 @@ orShort refusal bytes room = pick (eqb refusal 0) (pick (ltb room bytes) 7 0) re
 pub record Fills (refusal place : ℕ) (bytes l : List ℕ) (r : ℕ) (e : List ℕ) : Type 0 where
   pub answer : r ≡ numbered refusal place
   pub output : e ≡ outOf refusal bytes l
-
--- a refusal, or none: amendments to a lent frame
-abbrev pub refusalAnswer : Refusal → ℕ
-refusalAnswer r = numbered (r .number) (r .place)
 
 -- a frame taken out of a buffer that holds it: its length, or the number of the refusal
 abbrev pub takenAnswer : Taken → ℕ

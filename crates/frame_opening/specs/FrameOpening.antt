@@ -8,7 +8,7 @@ use Rattle.base.specs.Bytes.{pick}
 use Rattle.frame_security.specs.Mic.{sameBytes}
 use Rattle.frame.specs.Layout.{fcnt, headerEnd, payloadEnd, micOf}
 use Rattle.frame.specs.ReadingNumbers.{onRequest, onAccept, onData}
-use Rattle.frame.specs.Refusals.{refused}
+use Rattle.frame.specs.Refusals.{refused, notRefused}
 use Rattle.frame.specs.declared.refusals.Refusal.{Refusal}
 use Rattle.frame.specs.Reading.{readOf}
 use Rattle.frame_security.specs.Security.{cryptedPart, frameKey, fullCounter, covered, dataMic, joinMic}
@@ -40,16 +40,11 @@ joinAcceptTest key f = onAccept (λ n. answered (joinPasses key f)) RefusedTest 
 unfoldable pub dataTest : List ℕ → ℕ → List ℕ → MicTest
 dataTest key counter f = onData (λ d. answered (dataPasses key counter f)) RefusedTest (readOf f)
 
--- its number (0 where the test was made), its place, and whether it passes
-abbrev pub testNumber : MicTest → ℕ
-testNumber Passes = 0
-testNumber Fails = 0
-testNumber (RefusedTest r) = r .number
-
-abbrev pub testPlace : MicTest → ℕ
-testPlace Passes = 0
-testPlace Fails = 0
-testPlace (RefusedTest r) = r .place
+-- its refusal, which is none where the test was made, and whether it passes
+abbrev pub testRefusal : MicTest → Refusal
+testRefusal Passes = notRefused
+testRefusal Fails = notRefused
+testRefusal (RefusedTest r) = r
 
 abbrev pub testPasses : MicTest → Bool
 testPasses Passes = true
@@ -58,14 +53,10 @@ testPasses (RefusedTest r) = false
 
 -- ---- opening: the answer, and the bytes of the lent frame as the call returns
 
--- its number (0 where the frame was opened) and its place
-abbrev pub openingNumber : Opening → ℕ
-openingNumber Opened = 0
-openingNumber (Refused r) = r .number
-
-abbrev pub openingPlace : Opening → ℕ
-openingPlace Opened = 0
-openingPlace (Refused r) = r .place
+-- its refusal, which is none where the frame was opened
+abbrev pub openingRefusal : Opening → Refusal
+openingRefusal Opened = notRefused
+openingRefusal (Refused r) = r
 
 pub record Result : Type 0 where
   pub answer : Opening

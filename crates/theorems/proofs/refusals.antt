@@ -3,6 +3,7 @@ pub mod BridgeRefusals
 pub mod BuildingRefusals
 pub mod FirstDue
 pub mod OpeningRefusals
+pub mod PlacedRefusals
 pub mod ReadFirst
 pub mod ReadingRefusals
 pub mod SomeIndex

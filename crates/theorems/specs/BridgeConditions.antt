@@ -1,7 +1,7 @@
--- The uses of a number that the functions for C add (docs/RULES.md, Refusals, From C), and the number in an answer to C.
+-- The uses of a number that the functions for C add (docs/RULES.md, Refusals, From C), and number and place in an answer to C.
 -- Assumes nothing.
 use mathlib.Core.List.{List, [], _∷_}
-use Prim.Native.Nat.{ℕ, _%_, _<_}
+use Prim.Native.Nat.{ℕ, _/_, _%_, _<_}
 use Rattle.frame.specs.Refusals.{refusal}
 use Rattle.frame.specs.declared.refusals.Refusal.{Refusal}
 use Rattle.frame_build.specs.declared.creator.data_frame.DataParts.{DataParts}
@@ -24,3 +24,7 @@ storedRefusal r count room = refusal (orShort (r .number) count room) (r .place)
 -- the number in an answer to C: its low byte
 abbrev pub numberInC : ℕ → ℕ
 numberInC answer = answer % 256
+
+-- and the place: what lies above it
+abbrev pub placeInC : ℕ → ℕ
+placeInC answer = answer / 256

@@ -4,6 +4,7 @@ pub mod BuildingConditions
 pub mod ByReading
 pub mod Exactly
 pub mod OpeningConditions
+pub mod Places
 pub mod PrintedFips197
 pub mod PrintedRfc4493
 pub mod ReadBack

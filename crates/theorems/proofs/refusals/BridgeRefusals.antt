@@ -1,10 +1,10 @@
 -- The numbers that the functions for C add are given exactly where they are to (docs/RULES.md, Refusals, From C), and the low byte
--- of every answer to C is the number that the proved call gives.
+-- of every answer to C is the number that the proved call gives, with its place above it.
 -- Assumes nothing.
 use mathlib.Core.Path.{_≡_, refl, ap}
 use mathlib.Core.Bool.{Bool}
 use mathlib.Core.List.{List}
-use Prim.Native.Nat.{ℕ, _<_}
+use Prim.Native.Nat.{ℕ, _%_, _^_, _<_}
 use native.Mathlib.Omega.{arith}
 use lib.Dec.{ltb}
 use lib.ListN.{length}
@@ -23,7 +23,7 @@ use Rattle.frame_c.specs.CGiven.{dataRefused}
 use Rattle.theorems.specs.Exactly.{Exactly, Due}
 use Rattle.theorems.specs.ByReading.{Needs, join-request, join-accept, AfterReading}
 use Rattle.theorems.specs.BuildingConditions.{Answers}
-use Rattle.theorems.specs.BridgeConditions.{kindConditions, roomConditions, storedRefusal, numberInC}
+use Rattle.theorems.specs.BridgeConditions.{kindConditions, roomConditions, storedRefusal, numberInC, placeInC}
 use Rattle.theorems.proofs.refusals.BuildingRefusals.{data-gives, answers}
 use Rattle.theorems.proofs.refusals.FirstDue.{if-when, if-below, Gives, plain, or-else, tested, through, nothing-left}
 use Rattle.theorems.proofs.refusals.OpeningRefusals.{session-refusal, request-refusal, accept-refusal}
@@ -84,9 +84,14 @@ pub accept-stored : (f : List ℕ) (room : ℕ)
     → AfterReading (λ r. r) refused join-accept f (roomConditions 42 room) (storedRefusal (joinAcceptFields f .refusal) 42 room)
 accept-stored f room = rw (accept-refusal f) (stored-after 42 room join-accept f)
 
--- ---- the number in an answer
+-- ---- the number in an answer, and the place above it
 
--- is its low byte
+-- the low byte is the number
 pub in-low-byte : (n value : ℕ) → n < 256 → numberInC (numbered n value) ≡ n
 unfolding numbered
 in-low-byte n value h = omega arith
+
+-- and what lies above it the place, modulo 2 ^ 56
+pub in-high-bits : (n value : ℕ) → n < 256 → placeInC (numbered n value) ≡ value % 2 ^ 56
+unfolding numbered
+in-high-bits n value h = omega arith

@@ -15,7 +15,7 @@ use Rattle.frame.specs.declared.refusals.Refusal.{Refusal}
 use Rattle.frame.specs.declared.parser.FPort.{FPort}
 use Rattle.frame.specs.declared.parser.FPort.the-variants.{Absent, Port}
 use Rattle.frame_build.specs.DataBuilding.{both, either, isZero, isAbsent, dataLength, dataRefusal}
-use Rattle.frame_build.specs.DataFrames.{dataFrame, builtOf}
+use Rattle.frame_build.specs.DataFrames.{dataFrame, builtOf, builtRefusal}
 use Rattle.frame_build.specs.JoinBuilding.{tooHigh, joinAcceptRefusal, joinRequestRefusal}
 use Rattle.frame_build.specs.JoinFrames.{joinRequest, joinAccept}
 use Rattle.frame_build.specs.declared.creator.Built.{Built}
@@ -127,23 +127,17 @@ accept-gives j channels room =
 
 -- ---- and what a building answers by it
 
--- the refusal that a building answers
-built-told : Built → Refusal
-built-told (Frame n) = notRefused
-built-told (Refused r) = r
-
 -- what is due by the number is what is due by the answer
 pub answers : {cs : List Condition} {m : ℕ} (long : ℕ) → Gives plain cs m → Answers cs long (builtOf m long)
-unfolding built-told
 answers long g =
     let says : ℕ → Built = λ (n : ℕ). builtOf n long in
-    let back = says-told Refused (Frame long) built-told (λ r. refl) refl in
-    let given = in-answer says built-told back g in
+    let back = says-told Refused (Frame long) builtRefusal (λ r. refl) refl in
+    let given = in-answer says builtRefusal back g in
     record {
       refuses =
           λ n h. rw (ne-eqb n 0 (λ e. omega arith)) at (given .exactly n);
       builds = given .exactly 0;
-      no-other = λ q o e. no-other says built-told back given q o (ap built-told e);
+      no-other = λ q o e. no-other says builtRefusal back given q o (ap builtRefusal e);
     }
 
 module _ (d : DataParts) (commands body : List ℕ) (room : ℕ) where

@@ -30,7 +30,7 @@ use Rattle.frame_security.specs.Mic.{sameBytes}
 use Rattle.frame_security.specs.Security.{byNetworkKey, frameKey, covered, dataMic, joinMic}
 use Rattle.frame_security.proofs.MicCompared.{same-of-test, test-of-same}
 use Rattle.frame_security.proofs.SecurityLaws.{by-port}
-use Rattle.frame_opening.specs.FrameOpening.{joinPasses, dataPasses, answered, joinRequestTest, joinAcceptTest, dataTest, Result, unopened, result, decrypted, openedUnder, dataOpened, givenKey}
+use Rattle.frame_opening.specs.FrameOpening.{joinPasses, dataPasses, answered, joinRequestTest, joinAcceptTest, dataTest, Result, unopened, result, decrypted, openedUnder, dataOpened, givenKey, openingRefusal}
 use Rattle.frame_opening.specs.JoinAcceptOpening.{acceptOpened}
 use Rattle.frame_opening.specs.SessionKeys.{derivedKeys, noKeys, sessionKeys}
 use Rattle.frame_opening.specs.declared.join_accept.SessionKeys.{SessionKeys}
@@ -110,22 +110,16 @@ module _ (f : List ℕ) (h : IsData f) where
 
 -- ---- openings
 
--- the refusal that an opening answers
-opening-told : Opening → Refusal
-opening-told Opened = notRefused
-opening-told (Refused r) = r
-
-told-opening : (n : ℕ) → opening-told (openingOf n) ≡ refused n
-unfolding opening-told
-told-opening = says-told Refused Opened opening-told (λ r. refl) refl
+-- an opening tells its refusal
+told-opening : (n : ℕ) → openingRefusal (openingOf n) ≡ refused n
+told-opening = says-told Refused Opened openingRefusal (λ r. refl) refl
 
 -- an opening that goes on past reading: its answer where the frame is what it needs
 opens-after : (k : Needs) (f : List ℕ) {cs : List Condition} (x : Result) → (Is k f → Gives openingOf cs (x .answer))
     → AfterReading Refused openingOf k f cs (on k x (unopened f) (readOf f) .answer)
-unfolding opening-told
 opens-after k f x g =
     rw (on-through (λ (r : Result). r .answer) k f x (unopened f) Refused (λ r n. refl))
-    (after-reading Refused openingOf opening-told (λ r. refl) told-opening k f g)
+    (after-reading Refused openingOf openingRefusal (λ r. refl) told-opening k f g)
 
 -- by a key that may not be given
 key-gives : (nwk app : MaybeKey) (counter : ℕ) (f : List ℕ) → IsData f
@@ -134,9 +128,9 @@ unfolding openedUnder
 key-gives nwk app counter f h =
     let key = frameKey f nwk app in
     rw (through (λ (r : Result). r .answer) (key .given) (result Opened (decrypted (key .key) counter f)) (unopened f (refused 6)))
-    (passed openingOf opening-told told-opening tt (key .given)
+    (passed openingOf openingRefusal told-opening tt (key .given)
     (if-when (not (key .given)) (if-not (key .given) (if-missing f h nwk app)))
-    (no-more openingOf opening-told told-opening))
+    (no-more openingOf openingRefusal told-opening))
 
 -- past a test of the MIC
 tested-gives : (nwk : List ℕ) (app : MaybeKey) (counter : ℕ) (f : List ℕ) → IsData f
@@ -145,7 +139,7 @@ unfolding openedTested dataPasses
 tested-gives nwk app counter f h =
     let right = sameBytes (micOf f) (dataMic nwk (covered f) counter) in
     rw (through (λ (r : Result). r .answer) right (openedUnder (frameKey f (givenKey nwk) app) counter f) (unopened f (refused 5)))
-    (passed openingOf opening-told told-opening tt right (if-unless right (if-right (micOf f) (dataMic nwk (covered f) counter)))
+    (passed openingOf openingRefusal told-opening tt right (if-unless right (if-right (micOf f) (dataMic nwk (covered f) counter)))
     (key-gives (givenKey nwk) app counter f h))
 
 -- a join-accept, past the test of its clear MIC
@@ -155,8 +149,8 @@ accept-gives key f =
     let clear = acceptDecrypted key f in
     let right = sameBytes (micOf clear) (joinMic key (covered clear)) in
     rw (through (λ (r : Result). r .answer) right (result Opened clear) (unopened f (refused 5)))
-    (passed openingOf opening-told told-opening tt right (if-unless right (if-right (micOf clear) (joinMic key (covered clear))))
-    (no-more openingOf opening-told told-opening))
+    (passed openingOf openingRefusal told-opening tt right (if-unless right (if-right (micOf clear) (joinMic key (covered clear))))
+    (no-more openingOf openingRefusal told-opening))
 
 -- plain decryption of a data frame: reading, 6
 pub data-opening : (nwk app : MaybeKey) (counter : ℕ) (f : List ℕ)
@@ -174,7 +168,7 @@ checked-opening nwk app counter f = opens-after data-frame f (openedTested nwk a
 pub accept-opening : (key f : List ℕ) → AfterReading Refused openingOf join-accept f [] (acceptOpened key f .answer)
 unfolding acceptOpened
 accept-opening key f =
-    opens-after join-accept f (result Opened (acceptDecrypted key f)) (λ h. no-more openingOf opening-told told-opening)
+    opens-after join-accept f (result Opened (acceptDecrypted key f)) (λ h. no-more openingOf openingRefusal told-opening)
 
 -- checked opening of a join-accept: reading, 5
 pub checked-accept : (key f : List ℕ)

@@ -78,7 +78,7 @@ module _ (f : List ℕ) where
   of-fault join-length = tt
   of-fault header = tt
 
-  reading-number : (k : Needs) (r : Refusal) → ByReading k f r → T (ofReading (r .number))
+  pub reading-number : (k : Needs) (r : Refusal) → ByReading k f r → T (ofReading (r .number))
   reading-number k r (keeps q) = let g = refusal-read f q in rw (g .is) (of-fault (g .fault))
   reading-number k r (other p n e) = rw e tt
 
