@@ -28,11 +28,7 @@ abbrev pub builtRefusal : Built → Refusal
 builtRefusal (Frame n) = notRefused
 builtRefusal (Refused r) = r
 
--- its number (0 where a frame was built), and its value: the frame's length, or the refusal's place
-abbrev pub builtNumber : Built → ℕ
-builtNumber (Frame n) = 0
-builtNumber (Refused r) = r .number
-
+-- its value: the frame's length, or the refusal's place
 abbrev pub builtValue : Built → ℕ
 builtValue (Frame n) = n
 builtValue (Refused r) = r .place

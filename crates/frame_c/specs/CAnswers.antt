@@ -7,7 +7,7 @@ use mathlib.Core.List.{List}
 use Prim.Native.Nat.{ℕ}
 use lib.Dec.{ltb, eqb}
 use Rattle.base.specs.Bytes.{pick}
-use Rattle.frame_build.specs.DataFrames.{outOf, builtOf, builtNumber, builtValue}
+use Rattle.frame_build.specs.DataFrames.{outOf, builtOf, builtRefusal, builtValue}
 use Rattle.frame_build.specs.declared.creator.Built.{Built}
 use Rattle.frame_opening.specs.FrameOpening.{testRefusal, openingRefusal}
 use Rattle.frame_opening.specs.declared.mic_tests.MicTest.{MicTest}
@@ -38,7 +38,7 @@ openingAnswer o = refusalAnswer (openingRefusal o)
 
 -- a building: the frame's length, or the number and the place of the refusal
 abbrev pub builtAnswer : Built → ℕ
-builtAnswer b = numbered (builtNumber b) (builtValue b)
+builtAnswer b = numbered (builtRefusal b .number) (builtValue b)
 
 -- a refusal if there is one, then 7 where the output has room for fewer than so many bytes
 unfoldable pub orShort : ℕ → ℕ → ℕ → ℕ
