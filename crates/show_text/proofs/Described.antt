@@ -57,8 +57,9 @@ cut text out {r} {e} h = sym (length-take-le (r .length) e (within text out h))
 
 -- ---- the start of an input, and its length
 
--- what stands in the place of a frame gives its text, if it is the frame wherever that has at most 255 bytes
-same-text : (s f : List ℕ) → (length f ≤ 255 → s ≡ f) → textOfInput s (length f) ≡ textOf f
+-- what stands in the place of an input gives its text, if it is the input wherever that has at most 255 bytes: so a program may
+-- overwrite what it kept of a longer one
+pub same-text : (s f : List ℕ) → (length f ≤ 255 → s ≡ f) → textOfInput s (length f) ≡ textOf f
 unfolding textOfInput textOf textOfReading
 same-text s f h =
     by-order (length f) 255 (λ k. simp (le-ltb _ _ k) (ap textOf (h k)))
