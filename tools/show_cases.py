@@ -11,20 +11,20 @@ import sys
 
 
 def read(frame):
-    """A refusal's number, or the lines of docs/RULES.md, "Reading" and "Text"."""
+    """A refusal's number and place, or the lines of docs/RULES.md, "Reading" and "Text"."""
     n = len(frame)
     if n > 255:
-        return 12
+        return 12, n
     if n < 12:
-        return 1
+        return 1, n
     if frame[0] & 3 != 0:
-        return 2
+        return 2, 0
     kind = frame[0] >> 5
     if kind > 5:
-        return 3
+        return 3, 0
     if kind == 0:
         if n != 23:
-            return 4
+            return 4, n
         return [
             "type 0",
             "app " + frame[1:9].hex(),
@@ -34,11 +34,11 @@ def read(frame):
         ]
     if kind == 1:
         if n not in (17, 33):
-            return 4
+            return 4, n
         return ["type 1", "length %d" % n]
     header = 7 + frame[5] % 16
     if 5 + header > n:
-        return 4
+        return 4, 5
     port = "%d" % frame[1 + header] if n > header + 6 else "none"
     payload = "none" if n < header + 6 else "%d %d" % (header + 2, n - 4 - (header + 2))
     return [
@@ -55,8 +55,8 @@ def read(frame):
 
 def text(frame):
     lines = read(frame)
-    if isinstance(lines, int):
-        lines = ["refused %d" % lines]
+    if isinstance(lines, tuple):
+        lines = ["refused %d at %d" % lines]
     return "".join(line + "\n" for line in lines)
 
 
@@ -74,10 +74,10 @@ def some(n, first, start=0, **at):
 def frames():
     yield bytes.fromhex("40" "04030201" "00" "0500" "00" "aa" "11223344")
     # too short, and too long: both sides of 12 and of 255
-    for n in (0, 1, 11, 12, 13):
+    for n in (0, 1, 9, 10, 11, 12, 13):
         yield some(n, 0x40, b5=0)
     yield some(11, 0x43)
-    for n in (254, 255, 256, 300):
+    for n in (254, 255, 256, 257, 300, 511, 512):
         yield some(n, 0x40, 5, b5=0x80)
     yield some(256, 0x43)
     # the version

@@ -1,3 +1,4 @@
+pub mod Decimal
 pub mod Described
 pub mod Digits
 pub mod Fields

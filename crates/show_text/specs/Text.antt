@@ -2,13 +2,14 @@
 -- A line is a word, a value and a line end (10). Hex is lower case and in frame order, numbers are decimal.
 -- Assumes nothing.
 use mathlib.Core.List.{List, [], _∷_, _++_}
-use Prim.Native.Nat.{ℕ, _+_, _-_, _/_, _%_, _≤_, _<_}
+use Prim.Native.Nat.{ℕ, zero, suc, _+_, _-_, _/_, _%_, _≤_, _<_}
 use lib.Dec.{ltb}
 use lib.ListN.{length, drop}
 use Rattle.base.specs.Bytes.{pick}
 use Rattle.frame.specs.Layout.{devAddr, micOf, appEui, devEui, devNonce}
 use Rattle.frame.specs.Reading.{readOf}
-use Rattle.frame.specs.Refusals.{refused, notRefused}
+use Rattle.frame.specs.Refusals.{refusal, refused, notRefused}
+use Rattle.frame.specs.declared.refusals.Refusal.{Refusal}
 use Rattle.frame.specs.declared.parser.FPort.{FPort}
 use Rattle.frame.specs.declared.parser.FPort.the-variants.{Absent, Port}
 use Rattle.frame.specs.declared.parser.FrmPayload.{FrmPayload}
@@ -29,18 +30,14 @@ unfoldable pub hexOf : List ℕ → List ℕ
 hexOf [] = []
 hexOf (b ∷ s) = digitOf (b / 16) ∷ digitOf (b % 16) ∷ hexOf s
 
--- how many digits a number below 100,000 takes
-unfoldable pub digitCount : ℕ → ℕ
-digitCount n = pick (ltb n 10) 1 (pick (ltb n 100) 2 (pick (ltb n 1000) 3 (pick (ltb n 10000) 4 5)))
+-- the number in decimal, without leading zeros, if it has at most k digits; of a longer one the last k
+unfoldable pub decimalIn : ℕ → ℕ → List ℕ
+decimalIn zero n = []
+decimalIn (suc k) n = pick (ltb n 10) (digitOf n ∷ []) (decimalIn k (n / 10) ++ digitOf (n % 10) ∷ [])
 
--- the five digits of such a number, leading zeros among them
-unfoldable pub fiveDigits : ℕ → List ℕ
-fiveDigits n =
-    digitOf (n / 10000) ∷ digitOf (n / 1000 % 10) ∷ digitOf (n / 100 % 10) ∷ digitOf (n / 10 % 10) ∷ digitOf (n % 10) ∷ []
-
--- the number in decimal, without leading zeros
+-- the number in decimal: one of 64 bits has at most twenty digits
 unfoldable pub decimalOf : ℕ → List ℕ
-decimalOf n = drop (5 - digitCount n) (fiveDigits n)
+decimalOf n = decimalIn 20 n
 
 -- ---- words
 
@@ -96,6 +93,10 @@ nonceWord = 110 ∷ 111 ∷ 110 ∷ 99 ∷ 101 ∷ 32 ∷ []
 abbrev pub refusedWord : List ℕ
 refusedWord = 114 ∷ 101 ∷ 102 ∷ 117 ∷ 115 ∷ 101 ∷ 100 ∷ 32 ∷ []
 
+-- " at "
+abbrev pub atWord : List ℕ
+atWord = 32 ∷ 97 ∷ 116 ∷ 32 ∷ []
+
 -- "none"
 abbrev pub none : List ℕ
 none = 110 ∷ 111 ∷ 110 ∷ 101 ∷ []
@@ -121,9 +122,13 @@ unfoldable pub portLine : FPort → List ℕ
 portLine Absent = line portWord none
 portLine (Port p) = numberLine portWord p
 
+-- two numbers, each after a word of its own
+unfoldable pub pairLine : List ℕ → ℕ → List ℕ → ℕ → List ℕ
+pairLine word m between n = word ++ decimalOf m ++ numberLine between n
+
 -- a place and a length
 unfoldable pub placeLine : ℕ → ℕ → List ℕ
-placeLine start end = payloadWord ++ decimalOf start ++ space ++ decimalOf (end - start) ++ newline
+placeLine start end = pairLine payloadWord start space (end - start)
 
 unfoldable pub payloadLine : FrmPayload → List ℕ
 payloadLine Nothing = line payloadWord none
@@ -161,14 +166,22 @@ joinRequestText f = euisText f ++ hexLine nonceWord (devNonce f) ++ hexLine micW
 unfoldable pub joinAcceptText : ℕ → List ℕ
 joinAcceptText n = numberLine typeWord 1 ++ numberLine lengthWord n
 
+-- a refusal: its number and its place
+unfoldable pub refusalText : Refusal → List ℕ
+refusalText r = pairLine refusedWord (r .number) atWord (r .place)
+
 unfoldable pub textOfReading : List ℕ → Reading → List ℕ
 textOfReading f JoinRequest = joinRequestText f
 textOfReading f (JoinAccept n) = joinAcceptText n
 textOfReading f (Data d) = dataText f d
-textOfReading f (Refused r) = numberLine refusedWord (r .number)
+textOfReading f (Refused r) = refusalText r
 
 unfoldable pub textOf : List ℕ → List ℕ
 textOf f = textOfReading f (readOf f)
+
+-- an input of n bytes that begins with start: up to 255 it is start, and more are too many, whatever they are
+unfoldable pub textOfInput : List ℕ → ℕ → List ℕ
+textOfInput start n = pick (ltb 255 n) (refusalText (refusal 12 n)) (textOf start)
 
 -- ---- the text in a lent buffer
 
@@ -178,10 +191,10 @@ textRoom = 128
 
 -- what is answered: the text's length, or 7 where the buffer is too short
 unfoldable pub describedOf : List ℕ → List ℕ → Description
-describedOf f out =
+describedOf text out =
     pick (ltb (length out) textRoom) (record { refusal = refused 7; length = 0 })
-    (record { refusal = notRefused; length = length (textOf f) })
+    (record { refusal = notRefused; length = length text })
 
 -- the buffer afterwards: the text at its start, and nothing changed where it is too short
 unfoldable pub describedIn : List ℕ → List ℕ → List ℕ
-describedIn f out = pick (ltb (length out) textRoom) out (textOf f ++ drop (length (textOf f)) out)
+describedIn text out = pick (ltb (length out) textRoom) out (text ++ drop (length text) out)

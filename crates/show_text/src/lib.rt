@@ -7,7 +7,7 @@ ghost use Rattle.base.specs.Bytes.{part};
 ghost use Rattle.base.specs.Storing.{Put};
 ghost use Rattle.frame.specs.Reading.{dataOf, readOf};
 ghost use Rattle.frame.specs.Conditions.{IsData};
-ghost use Rattle.show_text.specs.Text.{digitOf, hexOf, digitCount, fiveDigits, decimalOf, typeWord, newline, hexLine, numberLine, placeLine, Spans, payloadLine, portLine, headerText, restText, dataText, euisText, joinRequestText, joinAcceptText, textOf, describedOf, describedIn};
+ghost use Rattle.show_text.specs.Text.{digitOf, hexOf, decimalOf, typeWord, newline, hexLine, numberLine, pairLine, placeLine, Spans, payloadLine, portLine, headerText, restText, dataText, euisText, joinRequestText, joinAcceptText, refusalText, textOf, textOfInput, describedOf, describedIn};
 use base::storing::wide;
 use frame::packet_length::APP_EUI_AT;
 use frame::packet_length::DEV_ADDR_AT;
@@ -17,6 +17,7 @@ use frame::packet_length::FCNT_AT;
 use frame::packet_length::FCTRL_AT;
 use frame::packet_length::FOPTS_AT;
 use frame::packet_length::JOIN_REQUEST_LEN;
+use frame::packet_length::PHY_PAYLOAD_MAX_LEN;
 use frame::packet_length::REQUEST_MIC_AT;
 use frame::parser::DataFrame;
 use frame::parser::FPort;
@@ -24,6 +25,7 @@ use frame::parser::FrmPayload;
 use frame::parser::Reading;
 use frame::parser::read;
 use frame::refusals::BUFFER_TOO_SHORT;
+use frame::refusals::FRAME_TOO_LONG;
 use frame::refusals::Refusal;
 
 // A buffer of so many bytes has room for every text.
@@ -54,6 +56,9 @@ const DIGITS: [u8; 16] = [
     b'e',
     b'f',
 ];
+
+// A number of 64 bits has at most so many digits.
+const DECIMAL_ROOM: usize = 20;
 
 fn digit(n: usize) -> u8
     requires { ⌜ n < 16 ⌝ }
@@ -95,44 +100,21 @@ fn put_hex(out: &mut [u8], at: usize, bytes: &[u8]) -> usize
     j
 }
 
-fn digit_count(n: usize) -> usize
-    ensures { λ r. ⌜ r ≡ digitCount n ⌝ }
-{
-    if n < 10 {
-        return 1;
-    }
-    if n < 100 {
-        return 2;
-    }
-    if n < 1000 {
-        return 3;
-    }
-    if n < 10000 {
-        return 4;
-    }
-    5
-}
-
-fn five_digits(n: usize) -> [u8; 5]
-    requires { ⌜ n < 100000 ⌝ }
-    ensures { λ r. ⌜ r ≡ fiveDigits n ⌝ }
-{
-    let d4 = digit(n / 10000);
-    let d3 = digit(n / 1000 % 10);
-    let d2 = digit(n / 100 % 10);
-    let d1 = digit(n / 10 % 10);
-    let d0 = digit(n % 10);
-    [d4, d3, d2, d1, d0]
-}
-
+// The digits are made from the last one on, until one is left.
 fn put_decimal(out: &mut [u8], at: usize, n: usize) -> usize
-    requires { ⌜ n < 100000 ⌝ }
-    requires { ⌜ at + 5 ≤ length (now out) ⌝ }
+    requires { ⌜ at + length (decimalOf n) ≤ length (now out) ⌝ }
     ensures { λ r. ⌜ Put (now (out .entry)) at (decimalOf n) r (now (out .exit)) ⌝ }
 {
-    let five = five_digits(n);
-    let zeros = 5 - digit_count(n);
-    base::storing::put(out, at, &five[zeros..])
+    let mut digits = [0u8; DECIMAL_ROOM];
+    let mut first = DECIMAL_ROOM - 1;
+    let mut rest = n;
+    while rest > 9 {
+        digits[first] = digit(rest % 10);
+        first -= 1;
+        rest /= 10;
+    }
+    digits[first] = digit(rest);
+    base::storing::put(out, at, &digits[first..])
 }
 
 // A line of the bytes start..end of a frame.
@@ -154,8 +136,7 @@ fn put_hex_line(
 }
 
 fn put_word_number(out: &mut [u8], at: usize, word: &[u8], n: usize) -> usize
-    requires { ⌜ n < 100000 ⌝ }
-    requires { ⌜ at + length (now word) + 5 ≤ length (now out) ⌝ }
+    requires { ⌜ at + length (now word ++ decimalOf n) ≤ length (now out) ⌝ }
     ensures { λ r. ⌜ Put (now (out .entry)) at (now (word .entry) ++ decimalOf n) r (now (out .exit)) ⌝ }
 {
     let j = base::storing::put(out, at, word);
@@ -163,12 +144,26 @@ fn put_word_number(out: &mut [u8], at: usize, word: &[u8], n: usize) -> usize
 }
 
 fn put_number_line(out: &mut [u8], at: usize, word: &[u8], n: usize) -> usize
-    requires { ⌜ n < 100000 ⌝ }
-    requires { ⌜ at + length (now word) + 6 ≤ length (now out) ⌝ }
+    requires { ⌜ at + length (numberLine (now word) n) ≤ length (now out) ⌝ }
     ensures { λ r. ⌜ Put (now (out .entry)) at (numberLine (now (word .entry)) n) r (now (out .exit)) ⌝ }
 {
     let j = put_word_number(out, at, word, n);
     put_newline(out, j)
+}
+
+fn put_pair_line(
+    out: &mut [u8],
+    at: usize,
+    word: &[u8],
+    m: usize,
+    between: &[u8],
+    n: usize,
+) -> usize
+    requires { ⌜ at + length (pairLine (now word) m (now between) n) ≤ length (now out) ⌝ }
+    ensures { λ r. ⌜ Put (now (out .entry)) at (pairLine (now (word .entry)) m (now (between .entry)) n) r (now (out .exit)) ⌝ }
+{
+    let j = put_word_number(out, at, word, m);
+    put_number_line(out, j, between, n)
 }
 
 // The first line of every text but a refusal's, at the start of out.
@@ -197,8 +192,7 @@ fn put_place_line(out: &mut [u8], at: usize, start: usize, end: usize) -> usize
     requires { ⌜ at + 20 ≤ length (now out) ⌝ }
     ensures { λ r. ⌜ Put (now (out .entry)) at (placeLine start end) r (now (out .exit)) ⌝ }
 {
-    let j = put_word_number(out, at, b"payload ", start);
-    put_number_line(out, j, b" ", end - start)
+    put_pair_line(out, at, b"payload ", start, b" ", end - start)
 }
 
 fn put_payload_line(out: &mut [u8], at: usize, payload: FrmPayload) -> usize
@@ -289,6 +283,20 @@ fn put_join_accept(out: &mut [u8], n: usize) -> usize
     put_number_line(out, j, b"length ", n)
 }
 
+fn put_refusal(out: &mut [u8], refusal: Refusal) -> usize
+    requires { ⌜ 128 ≤ length (now out) ⌝ }
+    ensures { λ r. ⌜ Put (now (out .entry)) 0 (refusalText refusal) r (now (out .exit)) ⌝ }
+{
+    put_pair_line(
+        out,
+        0,
+        b"refused ",
+        wide(refusal.number),
+        b" at ",
+        refusal.place,
+    )
+}
+
 // By what reading the frame gave.
 fn put_text(out: &mut [u8], frame: &[u8], reading: Reading) -> usize
     requires { ⌜ reading ≡ readOf (now frame) ⌝ }
@@ -299,15 +307,33 @@ fn put_text(out: &mut [u8], frame: &[u8], reading: Reading) -> usize
         Reading::JoinRequest => put_join_request(out, frame),
         Reading::JoinAccept(n) => put_join_accept(out, n),
         Reading::Data(d) => put_data(out, frame, d),
-        Reading::Refused(refusal) => put_number_line(out, 0, b"refused ", wide(refusal.number)),
+        Reading::Refused(refusal) => put_refusal(out, refusal),
     }
 }
 
-// Writes the text of the frame to the start of out and answers its length. An out that is shorter than TEXT_ROOM is refused by 7
-// and stays as it is.
-pub fn describe(frame: &[u8], out: &mut [u8]) -> Description
-    ensures { λ r. ⌜ r ≡ describedOf (now (frame .entry)) (now (out .entry)) ⌝ }
-    ensures { λ r. ⌜ now (out .exit) ≡ describedIn (now (frame .entry)) (now (out .entry)) ⌝ }
+// An input that is too long is not read: only its length counts.
+fn put_input(out: &mut [u8], start: &[u8], count: usize) -> usize
+    requires { ⌜ 128 ≤ length (now out) ⌝ }
+    ensures { λ r. ⌜ Put (now (out .entry)) 0 (textOfInput (now (start .entry)) count) r (now (out .exit)) ⌝ }
+{
+    if count > PHY_PAYLOAD_MAX_LEN {
+        return put_refusal(
+            out,
+            Refusal {
+                number: FRAME_TOO_LONG,
+                place: count,
+            },
+        );
+    }
+    let reading = read(start);
+    put_text(out, start, reading)
+}
+
+// Writes the text of an input of count bytes to the start of out and answers its length. Up to 255 bytes the input is start; of
+// a longer one only the count is shown. An out that is shorter than TEXT_ROOM is refused by 7 and stays as it is.
+pub fn describe_input(start: &[u8], count: usize, out: &mut [u8]) -> Description
+    ensures { λ r. ⌜ r ≡ describedOf (textOfInput (now (start .entry)) count) (now (out .entry)) ⌝ }
+    ensures { λ r. ⌜ now (out .exit) ≡ describedIn (textOfInput (now (start .entry)) count) (now (out .entry)) ⌝ }
 {
     if out.len() < TEXT_ROOM {
         return Description {
@@ -318,8 +344,7 @@ pub fn describe(frame: &[u8], out: &mut [u8]) -> Description
             length: 0,
         };
     }
-    let reading = read(frame);
-    let end = put_text(out, frame, reading);
+    let end = put_input(out, start, count);
     Description {
         refusal: Refusal {
             number: 0,
@@ -327,4 +352,12 @@ pub fn describe(frame: &[u8], out: &mut [u8]) -> Description
         },
         length: end,
     }
+}
+
+// The text of a frame that is there as a whole, in the same way.
+pub fn describe(frame: &[u8], out: &mut [u8]) -> Description
+    ensures { λ r. ⌜ r ≡ describedOf (textOf (now (frame .entry))) (now (out .entry)) ⌝ }
+    ensures { λ r. ⌜ now (out .exit) ≡ describedIn (textOf (now (frame .entry))) (now (out .entry)) ⌝ }
+{
+    describe_input(frame, frame.len(), out)
 }

@@ -29,7 +29,7 @@ use Rattle.amend.specs.OpenFrame.{openOf}
 use Rattle.amend.specs.SignedOnce.{amendListOf}
 use Rattle.amend.specs.declared.amending.Open.{Open}
 use Rattle.amend_held.specs.HeldCalls.{takenOf}
-use Rattle.show_text.specs.Text.{describedOf}
+use Rattle.show_text.specs.Text.{textOf, textOfInput, describedOf}
 use Rattle.frame_c.specs.CGiven.{dataRefused}
 use Rattle.theorems.specs.BridgeConditions.{storedRefusal}
 
@@ -91,8 +91,9 @@ pub data Others : Type 0 where
   build-kind : (kind : ℕ) (nwk app : List ℕ) (d : DataParts) (commands body : List ℕ) (room : ℕ) → Others
   build-request : (key : List ℕ) (j : JoinRequestParts) (room : ℕ) → Others
   build-accept : (key : List ℕ) (j : JoinAcceptParts) (channels : List ℕ) (room : ℕ) → Others
-  -- the text of a frame: what reading refuses is a text, with number and place
+  -- the text of a frame, and of an input of n bytes: what reading refuses is a text, with number and place
   describe : (f out : List ℕ) → Others
+  describe-input : (start : List ℕ) (n : ℕ) (out : List ℕ) → Others
 
 abbrev pub othersRefusal : Others → Refusal
 othersRefusal (amend s offset value) = amendOf s offset value .refusal
@@ -105,7 +106,8 @@ othersRefusal (build-kind kind nwk app d commands body room) =
 othersRefusal (build-request key j room) = builtRefusal (builtOf (joinRequestRefusal room) (length (joinRequest key j)))
 othersRefusal (build-accept key j channels room) =
     builtRefusal (builtOf (joinAcceptRefusal j channels room) (length (joinAccept key j channels)))
-othersRefusal (describe f out) = describedOf f out .refusal
+othersRefusal (describe f out) = describedOf (textOf f) out .refusal
+othersRefusal (describe-input start n out) = describedOf (textOfInput start n) out .refusal
 
 -- ---- of every call
 

@@ -1,30 +1,55 @@
--- `show_text::put_decimal` meets its contract: what it copies is the end of the five digits that the definition names.
+-- `show_text::put_decimal` meets its contract. After each turn the digits behind `first` and those of `rest` are the number's,
+-- and `rest` has no more of them than there is room for.
 -- Assumes nothing.
-use Prim.Native.Nat.{_-_}
+use mathlib.Core.Path.{ap}
 use native.Mathlib.Omega.{arith}
 use borrow.Author.Needs.{needs}
+use lib.ListN.{length}
 use Rattle.base.proofs.StoringLaws.{fitted}
 use Rattle.base.proofs.Put.{same}
-use Rattle.show_text.proofs.Digits.{digitCount-most, spelled}
-use Rattle.show_text.proofs.Lengths.{length-part}
+use Rattle.show_text.proofs.Decimal.{Spelling, start, room, step, still-long, done}
 use Rattle.show_text.proofs.put_decimal.Statement.{statement}
 use Rattle.show_text.proofs.put_decimal.Tie as tie
 
-sub-zeros : tie.Need-sub-zeros
-sub-zeros c = omega (arith, c .digit-count .ensures, digitCount-most (c .before .before .before .args .n))
+abbrev Inv-loop : tie.InvT-loop
+Inv-loop out at n digits₀ first₀ rest₀ digits first rest = Spelling n digits first rest
 
-returns : tie.Need-returns
+abbrev μ-loop : tie.MeasureT-loop
+μ-loop out at n digits₀ first₀ rest₀ digits first rest = rest
+
+loop-holds : tie.Need-loop-holds Inv-loop μ-loop
+loop-holds c = start _ (c .before .fits .n .fits)
+
+sub-first : tie.Need-sub-first-2 Inv-loop μ-loop
+sub-first c = room (c .before .before .loop .inv) (c .before .loop-test .taken)
+
+loop-again : tie.Need-loop-again Inv-loop μ-loop
+loop-again c = step (c .before .before .loop .inv) (c .before .loop-test .taken) (c .digit .ensures)
+
+part-put-end : tie.Need-part-put-end Inv-loop μ-loop
+part-put-end c = omega (arith, still-long (c .before .before .before .before .loop .inv) (c .before .before .digit2 .result))
+
+returns : tie.Need-returns Inv-loop μ-loop
 returns c =
-    let args = c .before .before .before .before .before .before .before .before .before .args in
-    let zeros = 5 - c .before .before .before .before .before .before .digit-count .result in
-    same (spelled (args .n) (c .before .before .before .before .before .before .digit-count .ensures) (c .before .before .before .before .before .before .before .five-digits .ensures))
-    (fitted (c .before .before .put .ensures) (omega (arith, length-part zeros (5 - zeros) (c .before .before .before .before .before .before .before .five-digits .result))))
+    let at-digit = c .before .before .before .before .before .before in
+    let spelt = done (at-digit .before .before .loop .inv) (omega (arith, at-digit .before .loop-test .left)) (at-digit .digit2 .ensures) in
+    same spelt (fitted (c .before .before .put .ensures) (omega (arith, ap length spelt, at-digit .before .before .before .before .pre)))
 
 pub put-decimal-spec : {M : Type 1} → statement M
 put-decimal-spec =
     tie.close
     (tie.spec
-    (λ c κs. search needs) (λ c κs. search needs)
-    sub-zeros
-    (λ c. search needs) (λ c. search needs) (λ c. search needs) (λ c κs. search needs) (λ c. search needs)
+    Inv-loop
+    μ-loop
+    (λ c. search needs)
+    loop-holds
+    (λ c κs. search needs)
+    (λ c. search needs)
+    sub-first
+    (λ c. omega arith)
+    loop-again
+    (λ c κs. search needs) (λ c. search needs) (λ c. search needs) (λ c. search needs)
+    part-put-end
+    (λ c κs. search needs)
+    (λ c. search needs)
     returns)

@@ -5,12 +5,12 @@ use native.Mathlib.Omega.{arith}
 use borrow.Author.Needs.{needs}
 use Rattle.base.proofs.Put.{then}
 use Rattle.show_text.specs.Text.{typeWord, appWord}
-use Rattle.show_text.proofs.Lengths.{length-numberLine, length-partLine}
+use Rattle.show_text.proofs.Lengths.{length-smallLine, length-partLine}
 use Rattle.show_text.proofs.put_euis.Statement.{statement}
 use Rattle.show_text.proofs.put_euis.Tie as tie
 
 put-hex-line-requires : tie.Need-put-hex-line-requires
-put-hex-line-requires c κs = omega (arith, c .before .before .before .before .put-type-line, c .before .before .before .before .before .before .before .before .pre, length-numberLine typeWord 0)
+put-hex-line-requires c κs = omega (arith, c .before .before .before .before .put-type-line, c .before .before .before .before .before .before .before .before .pre, length-smallLine typeWord 0 (omega arith))
 
 put-hex-line-requires-2 : tie.Need-put-hex-line-requires-2
 put-hex-line-requires-2 c κs =
@@ -22,7 +22,7 @@ put-hex-line-requires-2 c κs =
       at-put-type-line .put-type-line,
       at-put-hex-line .put-hex-line,
       start .pre,
-      length-numberLine typeWord 0,
+      length-smallLine typeWord 0 (omega arith),
       length-partLine appWord 1 8 (start .args .frame .now),
     )
 

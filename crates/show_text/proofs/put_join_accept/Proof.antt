@@ -3,13 +3,22 @@
 use native.Mathlib.Omega.{arith}
 use borrow.Author.Needs.{needs}
 use Rattle.base.proofs.Put.{then}
-use Rattle.show_text.specs.Text.{typeWord, joinAcceptText}
-use Rattle.show_text.proofs.Lengths.{length-numberLine}
+use Rattle.show_text.specs.Text.{typeWord, lengthWord, joinAcceptText}
+use Rattle.show_text.proofs.Lengths.{length-smallLine}
 use Rattle.show_text.proofs.put_join_accept.Statement.{statement}
 use Rattle.show_text.proofs.put_join_accept.Tie as tie
 
 put-number-line-requires : tie.Need-put-number-line-requires
-put-number-line-requires c κs = omega (arith, c .before .before .before .before .put-type-line, c .before .before .before .before .before .before .before .pre, length-numberLine typeWord 1)
+put-number-line-requires c κs =
+    let at-put-type-line = c .before .before .before .before in
+    let start = at-put-type-line .before .before .before in
+    omega (
+      arith,
+      at-put-type-line .put-type-line,
+      start .pre,
+      length-smallLine typeWord 1 (omega arith),
+      length-smallLine lengthWord (start .args .n) (start .pre .0),
+    )
 
 returns : tie.Need-returns
 unfolding joinAcceptText

@@ -2,17 +2,21 @@
 -- Assumes nothing.
 use native.Mathlib.Omega.{arith}
 use borrow.Author.Needs.{needs}
-use lib.ListN.{length-append}
 use Rattle.base.proofs.Put.{then}
-use Rattle.show_text.specs.Text.{decimalOf, numberLine}
-use Rattle.show_text.proofs.Lengths.{length-decimalOf}
+use Rattle.show_text.specs.Text.{numberLine}
+use Rattle.show_text.proofs.Lengths.{length-numberLine}
 use Rattle.show_text.proofs.put_number_line.Statement.{statement}
 use Rattle.show_text.proofs.put_number_line.Tie as tie
 
+put-word-number-requires : tie.Need-put-word-number-requires
+put-word-number-requires c κs =
+    let start = c .before .before .before in
+    omega (arith, start .pre, length-numberLine (start .args .word .now) (start .args .n))
+
 put-newline-requires : tie.Need-put-newline-requires
 put-newline-requires c κs =
-    let args = c .before .before .before .before .before .before .before .args in
-    omega (arith, c .before .before .before .put-word-number, length-append (args .word .now) (decimalOf (args .n)), length-decimalOf (args .n))
+    let start = c .before .before .before .before .before .before .before in
+    omega (arith, c .before .before .before .put-word-number, start .pre, length-numberLine (start .args .word .now) (start .args .n))
 
 returns : tie.Need-returns
 unfolding numberLine
@@ -20,9 +24,4 @@ returns c = then (c .before .before .before .before .before .before .put-word-nu
 
 pub put-number-line-spec : {M : Type 1} → statement M
 put-number-line-spec =
-    tie.close
-    (tie.spec
-    (λ c κs. search needs)
-    put-newline-requires
-    (λ c. search needs)
-    returns)
+    tie.close (tie.spec put-word-number-requires put-newline-requires (λ c. search needs) returns)

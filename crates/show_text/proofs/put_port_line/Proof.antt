@@ -6,8 +6,13 @@ use borrow.Author.Needs.{needs}
 use Rattle.base.proofs.Put.{same}
 use Rattle.base.proofs.StoringLaws.{fitted}
 use Rattle.show_text.specs.Text.{portWord, numberLine, portLine}
+use Rattle.show_text.proofs.Lengths.{length-smallLine}
 use Rattle.show_text.proofs.put_port_line.Statement.{statement}
 use Rattle.show_text.proofs.put_port_line.Tie as tie
+
+put-number-line-requires : tie.Need-put-number-line-requires
+put-number-line-requires c κs =
+    omega (arith, length-smallLine portWord (c .wide .result) (omega arith))
 
 returns : tie.Need-returns
 unfolding portLine
@@ -23,7 +28,9 @@ put-port-line-spec =
     tie.close
     (tie.spec
     (λ c. search needs) (λ c. search needs) (λ c κs. search needs) (λ c. search needs) (λ c. search needs)
-    (λ c κs. search needs) (λ c κs. search needs) (λ c. search needs)
+    (λ c κs. search needs)
+    put-number-line-requires
+    (λ c. search needs)
     returns
     (λ c. search needs)
     returns-2)

@@ -7,7 +7,7 @@ use native.Mathlib.Omega.{arith}
 use borrow.Author.Needs.{needs}
 use Rattle.base.proofs.Put.{same}
 use Rattle.frame.proofs.ReadingLaws.{request-read, accept-read, data-read, data-fields}
-use Rattle.show_text.specs.Text.{refusedWord, numberLine, textOfReading, textOf}
+use Rattle.show_text.specs.Text.{textOfReading, textOf}
 use Rattle.show_text.proofs.put_text.Statement.{statement}
 use Rattle.show_text.proofs.put_text.Tie as tie
 
@@ -42,14 +42,7 @@ returns-3 c = same (ap (textOfReading (c .before .before .before .before .before
 
 returns-4 : tie.Need-returns-4
 unfolding textOf textOfReading
-returns-4 c =
-    let at-wide = c .before .before .before in
-    let at-reading3 = at-wide .before .before .before .before in
-    let start = at-reading3 .before .before .before .before in
-    same
-    (ap (numberLine refusedWord) (at-wide .wide .ensures)
-    ∙ ap (textOfReading (start .args .frame .now)) (sym (at-reading3 .reading3 .given .1) ∙ start .pre .0))
-    (c .before .before .put-number-line .ensures)
+returns-4 c = same (ap (textOfReading (c .before .before .before .before .before .before .before .before .before .args .frame .now)) (sym (c .before .before .before .before .before .reading3 .given .1) ∙ c .before .before .before .before .before .before .before .before .before .pre .0)) (c .before .before .put-refusal .ensures)
 
 pub put-text-spec : {M : Type 1} → statement M
 put-text-spec =
@@ -61,7 +54,7 @@ put-text-spec =
     put-join-accept-requires
     (λ c. search needs)
     put-data-requires
-    (λ c. search needs) (λ c. search needs) (λ c κs. search needs) (λ c κs. search needs) (λ c. search needs)
+    (λ c. search needs) (λ c κs. search needs) (λ c. search needs)
     returns
     (λ c. search needs)
     returns-2

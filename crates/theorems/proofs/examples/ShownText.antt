@@ -1,10 +1,12 @@
--- The example of docs/RULES.md, Text, computed from the definition: the text of its frame is its eight lines to the byte.
+-- The examples of docs/RULES.md, Text, computed from the definition: the text of its frame is its eight lines to the byte, and
+-- that of a refusal one line, which has the number and the whole place.
 -- Assumes nothing.
 use mathlib.Core.Path.{_≡_, refl}
-use mathlib.Core.List.{List, [], _∷_}
+use mathlib.Core.List.{List, [], _∷_, _++_}
 use Prim.Native.Nat.{ℕ}
-use Rattle.frame.specs.Reading.{portOf, payloadOf, dataOf, readData, readType, readOf}
-use Rattle.show_text.specs.Text.{digitOf, hexOf, digitCount, fiveDigits, decimalOf, hexLine, numberLine, portLine, placeLine, payloadLine, headerText, restText, dataText, textOfReading, textOf}
+use Rattle.base.specs.Bytes.{zeros}
+use Rattle.frame.specs.Reading.{portOf, payloadOf, dataOf, readJoinRequest, readData, readType, readOf}
+use Rattle.show_text.specs.Text.{digitOf, hexOf, decimalIn, decimalOf, hexLine, numberLine, pairLine, portLine, placeLine, payloadLine, headerText, restText, dataText, refusalText, textOfReading, textOf, textOfInput}
 
 -- 40 04030201 00 0500 00 AA 11223344
 abbrev exampleFrame : List ℕ
@@ -31,5 +33,34 @@ exampleText =
     109 ∷ 105 ∷ 99 ∷ 32 ∷ 49 ∷ 49 ∷ 50 ∷ 50 ∷ 51 ∷ 51 ∷ 52 ∷ 52 ∷ 10 ∷ []
 
 pub example : textOf exampleFrame ≡ exampleText
-unfolding textOf textOfReading dataText headerText restText payloadLine placeLine portLine numberLine hexLine decimalOf fiveDigits digitCount hexOf digitOf readOf readType readData dataOf payloadOf portOf
+unfolding textOf textOfReading dataText headerText restText payloadLine placeLine pairLine portLine numberLine hexLine decimalOf decimalIn hexOf digitOf readOf readType readData dataOf payloadOf portOf
 example = refl
+
+-- ---- refusals, each with its place
+
+-- "refused ", the digits of a number, " at ", those of a place, and the line end
+abbrev refusalLine : List ℕ → List ℕ → List ℕ
+refusalLine number place =
+    114 ∷ 101 ∷ 102 ∷ 117 ∷ 115 ∷ 101 ∷ 100 ∷ 32 ∷ [] ++ number ++ 32 ∷ 97 ∷ 116 ∷ 32 ∷ [] ++ place ++ 10 ∷ []
+
+-- nothing at all: refused 1 at 0
+pub of-nothing : textOf [] ≡ refusalLine (49 ∷ []) (48 ∷ [])
+unfolding textOf textOfReading refusalText pairLine numberLine decimalOf decimalIn digitOf readOf
+of-nothing = refl
+
+-- 22 zeros, a byte less than a join-request has: refused 4 at 22
+pub of-short-request : textOf (zeros 22) ≡ refusalLine (52 ∷ []) (50 ∷ 50 ∷ [])
+unfolding textOf textOfReading refusalText pairLine numberLine decimalOf decimalIn digitOf readOf readType readJoinRequest
+of-short-request = refl
+
+-- 70,000 bytes, whatever they are: refused 12 at 70000
+pub of-many : (start : List ℕ) → textOfInput start 70000 ≡ refusalLine (49 ∷ 50 ∷ []) (55 ∷ 48 ∷ 48 ∷ 48 ∷ 48 ∷ [])
+unfolding textOfInput refusalText pairLine numberLine decimalOf decimalIn digitOf
+of-many start = refl
+
+-- as many as a number of 64 bits can say: refused 12 at 18446744073709551615
+pub of-most : (start : List ℕ) → textOfInput start 18446744073709551615
+    ≡ refusalLine (49 ∷ 50 ∷ [])
+    (49 ∷ 56 ∷ 52 ∷ 52 ∷ 54 ∷ 55 ∷ 52 ∷ 52 ∷ 48 ∷ 55 ∷ 51 ∷ 55 ∷ 48 ∷ 57 ∷ 53 ∷ 53 ∷ 49 ∷ 54 ∷ 49 ∷ 53 ∷ [])
+unfolding textOfInput refusalText pairLine numberLine decimalOf decimalIn digitOf
+of-most start = refl

@@ -83,6 +83,7 @@ use Rattle.amend_held.proofs.calls.open_into.Reads as amend-held-open-into
 use Rattle.amend_held.proofs.calls.amend_held.Reads as amend-held-amend-held
 use Rattle.amend_held.proofs.calls.amend_list_held.Reads as amend-held-amend-list-held
 use Rattle.amend_held.proofs.calls.frame_of.Reads as amend-held-frame-of
+use Rattle.show_text.proofs.describe_input.Reads as show-text-describe-input
 use Rattle.show_text.proofs.describe.Reads as show-text-describe
 use Rattle.frame_c.proofs.opening.zinovoky_join_request_mic.Reads as c-join-request-mic
 use Rattle.frame_c.proofs.opening.zinovoky_join_accept_mic.Reads as c-join-accept-mic
@@ -357,6 +358,9 @@ pub amend-held-frame-of-determined : DeterminedLent (λ κs s. now (s .1 .0)) am
 amend-held-frame-of-determined κs a x y s t p q = (p .0 ∙ sym (q .0), p .1 ∙ sym (q .1))
 
 -- ---- show_text
+
+pub show-text-describe-input-determined : DeterminedLent (λ κs s. now (s .1 .1 .0)) show-text-describe-input.Learnt
+show-text-describe-input-determined κs a x y s t p q = (p .0 ∙ sym (q .0), p .1 ∙ sym (q .1))
 
 pub show-text-describe-determined : DeterminedLent (λ κs s. now (s .1 .0)) show-text-describe.Learnt
 show-text-describe-determined κs a x y s t p q = (p .0 ∙ sym (q .0), p .1 ∙ sym (q .1))

@@ -26,11 +26,11 @@ use Rattle.frame_build.specs.JoinBuilding.{joinRequestRefusal, joinAcceptRefusa
 use Rattle.frame_build.specs.JoinFrames.{joinRequest, joinAccept}
 use Rattle.frame_build.specs.declared.creator.Built.the-variants.{Frame, Refused as NotBuilt}
 use Rattle.frame_c.specs.CGiven.{dataRefused}
-use Rattle.show_text.specs.Text.{textRoom, describedOf}
+use Rattle.show_text.specs.Text.{textOf, textOfInput, textRoom, describedOf}
 use Rattle.theorems.specs.Exactly.{Condition, NotOwn, Refuses}
 use Rattle.theorems.specs.ByReading.{Needs, ByReading, keeps, other, ofReading, AfterReading}
 use Rattle.theorems.specs.OpeningConditions.{Tests, openingOf}
-use Rattle.theorems.specs.Places.{Reads, read, view, request-fields, accept-fields, session-keys, request-stored, accept-stored, keys-stored, request-mic, accept-mic, data-mic, decrypt-data, decrypt-data-checked, decrypt-accept, decrypt-accept-checked, open-frame, amend-frame, readsRefusal, Others, amend, amend-list, take-out, build-data, build-kind, build-request, build-accept, describe, othersRefusal, Call, reads, others, refusalOf, ReaderRefuses, Placed}
+use Rattle.theorems.specs.Places.{Reads, read, view, request-fields, accept-fields, session-keys, request-stored, accept-stored, keys-stored, request-mic, accept-mic, data-mic, decrypt-data, decrypt-data-checked, decrypt-accept, decrypt-accept-checked, open-frame, amend-frame, readsRefusal, Others, amend, amend-list, take-out, build-data, build-kind, build-request, build-accept, describe, describe-input, othersRefusal, Call, reads, others, refusalOf, ReaderRefuses, Placed}
 use Rattle.theorems.proofs.refusals.AmendingRefusals as amends
 use Rattle.theorems.proofs.refusals.BridgeRefusals as bridge
 use Rattle.theorems.proofs.refusals.FirstDue.{refuted, says-told}
@@ -157,9 +157,9 @@ refuses-at-0 {cs} {x} a = by-equal (x .place) 0 (λ e. e) (λ m. absurd (a .no-o
 built-at-0 : (n long : ℕ) → builtRefusal (builtOf n long) .place ≡ 0
 built-at-0 n long = ap (λ (r : Refusal). r .place) (says-told NotBuilt (Frame long) builtRefusal (λ r. refl) refl n)
 
-described-at-0 : (f out : List ℕ) → describedOf f out .refusal .place ≡ 0
+described-at-0 : (text out : List ℕ) → describedOf text out .refusal .place ≡ 0
 unfolding describedOf
-described-at-0 f out = by-bool (ltb (length out) textRoom) (λ e. simp e refl) (λ e. simp e refl)
+described-at-0 text out = by-bool (ltb (length out) textRoom) (λ e. simp e refl) (λ e. simp e refl)
 
 others-at-0 : (c : Others) → othersRefusal c .place ≡ 0
 others-at-0 (amend s offset value) = refuses-at-0 (amends.amending s offset value)
@@ -172,7 +172,8 @@ others-at-0 (build-kind kind nwk app d commands body room) =
 others-at-0 (build-request key j room) = built-at-0 (joinRequestRefusal room) (length (joinRequest key j))
 others-at-0 (build-accept key j channels room) =
     built-at-0 (joinAcceptRefusal j channels room) (length (joinAccept key j channels))
-others-at-0 (describe f out) = described-at-0 f out
+others-at-0 (describe f out) = described-at-0 (textOf f) out
+others-at-0 (describe-input start n out) = described-at-0 (textOfInput start n) out
 
 -- ---- the theorem
 
