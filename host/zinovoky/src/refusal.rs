@@ -113,7 +113,7 @@ impl Reason {
 /// let refusal = read(&[0x40; 11]).unwrap_err();
 /// assert_eq!(refusal.reason, Reason::InvalidPayload);
 /// assert_eq!((refusal.number(), refusal.name(), refusal.place), (1, "InvalidPayload", 11));
-/// assert_eq!(refusal.to_string(), "InvalidPayload: 11 bytes, fewer than 12");
+/// assert_eq!(refusal.to_string(), "InvalidPayload: 11 bytes");
 ///
 /// let refusal = read(&[0x40, 0, 0, 0, 0, 1, 0, 0, 0, 0, 0, 0]).unwrap_err();
 /// assert_eq!(refusal.to_string(), "InvalidData: the header does not fit, byte 5");
@@ -141,14 +141,14 @@ impl fmt::Display for Refusal {
         use Reason::*;
         write!(f, "{}: ", self.name())?;
         match (self.reason, self.place) {
-            (InvalidPayload, length) => write!(f, "{length} bytes, fewer than 12"),
+            (InvalidPayload, length) => write!(f, "{length} bytes"),
             (UnsupportedMajorVersion, byte) => write!(f, "the low two bits are not 00, byte {byte}"),
             (InvalidMessageType, byte) => write!(f, "type 6 or 7, byte {byte}"),
             (InvalidData, 0) => f.write_str("a frame of another type than the call needs"),
             (InvalidData, 5) => f.write_str("the header does not fit, byte 5"),
             (InvalidData, length) => write!(f, "a join message of {length} bytes"),
             (FrameTooLong, 0) => f.write_str("a frame to build of more than 255 bytes"),
-            (FrameTooLong, length) => write!(f, "{length} bytes, more than 255"),
+            (FrameTooLong, length) => write!(f, "{length} bytes"),
             (InvalidMic, _) => f.write_str("the MIC differs"),
             (InvalidKey, _) => f.write_str("the key that the port selects was not given"),
             (BufferTooShort, _) => f.write_str("no room for the answer"),
