@@ -100,7 +100,7 @@ fn open_checked(frame: &[u8], nwk_skey: [u8; 16], app_skey: [u8; 16], counter: u
     })
 }
 
-// Opens a data frame for amendments. Refused are what reading refuses, with its number, 4 for a frame of another type,
+// Opens a data frame for amendments. Refused are what reading refuses, at its place, 4 for a frame of another type,
 // 14 where the counter's low half is not the frame's, and 5 where the MIC differs.
 pub fn open_frame(frame: &[u8], nwk_skey: [u8; 16], app_skey: [u8; 16], counter: u32) -> Opened
     ensures { λ r. ⌜ r ≡ openOf (now (frame .entry)) «nwk_skey» «app_skey» counter ⌝ }
