@@ -1,5 +1,5 @@
--- What reading finds wrong with a frame (docs/RULES.md, Reading): six faults in the order of the tests, each with the number of its
--- refusal and the index of the byte whose rule failed.
+-- What reading finds wrong with a frame (docs/RULES.md, Refusals, The place): six faults in the order of the tests, each with the
+-- number of its refusal and the index of the byte whose rule failed. In brackets the sections of LoRaWAN 1.0.
 -- Assumes nothing.
 use mathlib.Core.List.{List}
 use Prim.Native.Nat.{ℕ}
@@ -8,15 +8,15 @@ use Rattle.frame.specs.Refusals.{refusal}
 use Rattle.frame.specs.declared.refusals.Refusal.{Refusal}
 
 pub data Fault : Type 0 where
-  -- over 255 bytes, under 12 bytes
+  -- over 255 bytes; under 12, the length of a data frame without FOpts, port and payload (4.3)
   too-long : Fault
   too-short : Fault
-  -- byte 0: a version other than 0, type 6 or 7
+  -- byte 0 (4.2): a version other than 0, type 6 or 7
   version : Fault
   type : Fault
-  -- a join message of a length that its type does not allow
+  -- a join message of a length that its type does not allow (6.2.4, 6.2.5)
   join-length : Fault
-  -- a data frame that has no room for its header and the MIC
+  -- a data frame that has no room for its header (4.3.1) and the MIC
   header : Fault
 
 abbrev pub numberOfFault : Fault → ℕ

@@ -58,3 +58,9 @@ pub fn put_refusal(refusal: Refusal) {
         put_number((refusal.place / 4294967296) as u32);
     }
 }
+
+// The same, and whether the call was accepted, so that values follow.
+pub fn put_accepted(refusal: Refusal) -> bool {
+    put_refusal(refusal);
+    refusal.number == 0
+}

@@ -3,6 +3,7 @@ use crate::input::ROOM;
 use crate::input::copy;
 use crate::input::length_at;
 use crate::output::put;
+use crate::output::put_accepted;
 use crate::output::put_all;
 use crate::output::put_flag;
 use crate::output::put_length;
@@ -143,9 +144,7 @@ fn mic_place(length: usize) -> usize {
 fn read_clear(record: &[u8], frame: &mut [u8]) {
     copy(frame, record, 3);
     let fields = join_accept_fields(frame);
-    let refusal = fields.refusal;
-    put_refusal(refusal);
-    if refusal.number == 0 {
+    if put_accepted(fields.refusal) {
         let mic = four_at(frame, mic_place(frame.len()));
         put_accept(fields, mic);
     }
@@ -160,9 +159,7 @@ pub fn clear_accept(record: &[u8]) {
 fn read_request(record: &[u8], frame: &mut [u8]) {
     copy(frame, record, 3);
     let fields = join_request_fields(frame);
-    let refusal = fields.refusal;
-    put_refusal(refusal);
-    if refusal.number == 0 {
+    if put_accepted(fields.refusal) {
         put_request(fields);
     }
 }
