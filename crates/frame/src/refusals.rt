@@ -30,6 +30,12 @@ pub const COUNTER_MISMATCH: u8 = 14;
 
 pub const OFFSET_OUTSIDE: u8 = 15;
 
+pub const UNKNOWN_COMMAND: u8 = 16;
+
+pub const COMMAND_CUT_SHORT: u8 = 17;
+
+pub const VALUE_OUT_OF_RANGE: u8 = 18;
+
 // A refusal: its number, and the place that the rules name, 0 where they name none. In a record that holds one beside its
 // values, number 0 says that nothing was refused.
 pub struct Refusal {
