@@ -1,19 +1,9 @@
 // Writes the text of each frame that standard input holds, and a line with two dashes after it. A frame stands there
 // after its length in two bytes, low byte first. What must come out tools/show_cases.py made from docs/RULES.md.
-ghost use Prim.Native.Nat.{_≤_};
+use input::RECORD_ROOM;
 use libc::STDIN_FILENO;
 use libc::STDOUT_FILENO;
 use show_text::TEXT_ROOM;
-
-// Room for frames that are too long, too. A longer record counts as so many bytes, and the next one begins after them.
-const RECORD_ROOM: usize = 512;
-
-fn record_length(low: u8, high: u8) -> usize
-    ensures { λ r. ⌜ r ≤ 512 ⌝ }
-{
-    let n = (low as usize) + (high as usize) * 256;
-    if n < RECORD_ROOM { n } else { RECORD_ROOM }
-}
 
 // The text of a frame; whether it was written whole.
 fn show_frame(frame: &[u8]) -> bool {
@@ -35,7 +25,7 @@ fn show_next() -> bool {
     if io::read_full(STDIN_FILENO, &mut prefix) < 2 {
         return false;
     }
-    let length = record_length(prefix[0], prefix[1]);
+    let length = input::record_length(prefix[0], prefix[1]);
     let mut record = [0u8; RECORD_ROOM];
     show_record(&mut record[..length])
 }
