@@ -19,6 +19,9 @@
  *   13 FOptsLenSet               FCtrl with a low nibble that is not 0
  *   14 CounterMismatch           the low half of the counter differs from the frame's FCnt
  *   15 OffsetOutside             an offset at or past the payload's length
+ *   16 UnknownCommand            a MAC command with an identifier outside 02 to 0A
+ *   17 CommandCutShort           a MAC command of which bytes are missing
+ *   18 ValueOutOfRange           a value that the bits of its field cannot hold
  *
  * The bytes above the low one hold, of a refusal, its place: all 56 bits of it, the place modulo 2^56. Reading names the place,
  * and every call that reads a frame first hands it on:
@@ -28,8 +31,9 @@
  *    4      the frame's length, of a join message whose length is wrong; 5, the byte that holds the length of FOpts, of a data
  *           frame whose header does not fit; 0, of a frame that is accepted but of another type than the call needs
  *
- * A refusal that does not come from reading has place 0, so also 12 of a frame to build. Of a frame that was built, or taken out
- * of a buffer, these bytes hold its length.
+ * Reading a list of MAC commands names the offset of the command that it refuses, for 16 and 17. Any other refusal has place 0, so
+ * also 12 of a frame to build. Of a frame that was built, or taken out of a buffer, these bytes hold its length, and of a MAC
+ * command that was read or written the place past it.
  * A refusal changes no byte that was lent.
  */
 #ifndef ZINOVOKY_H
@@ -70,7 +74,8 @@ static inline const char *zinovoky_refusal_name(uint8_t number) {
     static const char *const names[] = {
         "none", "InvalidPayload", "UnsupportedMajorVersion", "InvalidMessageType", "InvalidData", "InvalidMic", "InvalidKey",
         "BufferTooShort", "InvalidChannelList", "MacCommandTooBigForFOpts", "DataAndMacCommandsInPayloadNotAllowed",
-        "FRMPayloadWithFportZero", "FrameTooLong", "FOptsLenSet", "CounterMismatch", "OffsetOutside"};
+        "FRMPayloadWithFportZero", "FrameTooLong", "FOptsLenSet", "CounterMismatch", "OffsetOutside", "UnknownCommand",
+        "CommandCutShort", "ValueOutOfRange"};
     return number < sizeof names / sizeof *names ? names[number] : "unknown";
 }
 
@@ -151,6 +156,36 @@ uint64_t zinovoky_hold(const uint8_t *frame, size_t frame_len, const uint8_t *nw
 uint64_t zinovoky_held_amend(uint8_t *buffer, size_t offset, uint8_t value);
 uint64_t zinovoky_held_amend_list(uint8_t *buffer, const uint32_t *amendments, size_t amendments_len);
 uint64_t zinovoky_held_frame(const uint8_t *buffer, uint8_t *out, size_t out_len);
+
+/* MAC commands of LoRaWAN 1.0.2, section 5. A command is six numbers: its identifier, 2 to 10, then its values in this order, 0
+ * past the last one. `uplink` is 1 for a list that goes up, and any other number for one that goes down. Frequencies are in units
+ * of 100 Hz; the margin of DevStatusAns is signed, -32 to 31.
+ *
+ *        down                                                        up
+ *    2   LinkCheckAns     margin gateways                            LinkCheckReq
+ *    3   LinkADRReq       data_rate tx_power mask control            LinkADRAns       power data_rate mask
+ *                         transmissions
+ *    4   DutyCycleReq     max                                        DutyCycleAns
+ *    5   RXParamSetupReq  rx1_offset rx2_data_rate frequency         RXParamSetupAns  rx1_offset rx2_data_rate channel
+ *    6   DevStatusReq                                                DevStatusAns     battery margin
+ *    7   NewChannelReq    index frequency max_data_rate              NewChannelAns    range frequency
+ *                         min_data_rate
+ *    8   RXTimingSetupReq delay                                      RXTimingSetupAns
+ *    9   TxParamSetupReq  downlink_dwell uplink_dwell max_eirp       TxParamSetupAns
+ *   10   DlChannelReq     index frequency                            DlChannelAns     uplink frequency
+ *
+ * `zinovoky_read_command` reads the command at an offset of a list and stores its six numbers. It answers the offset of the next
+ * one above the low byte, and 0 at the end of the list: for an offset at or past its length. At the end, and where the answer is
+ * a refusal, 16 or 17 with the offset as its place, nothing is stored. Reserved bits are not looked at. The commands of a frame
+ * that was read stand from 8 on, in FOpts, if the list is the frame's first 8 + zinovoky_fopts_len bytes, and on port 0, in a
+ * payload that was decrypted, from zinovoky_payload_at on, if it is the frame's first zinovoky_mic_at bytes.
+ *
+ * `zinovoky_write_command` writes a command from an offset of the output on, with reserved bits 0, and answers the place past it
+ * above the low byte. It refuses 16 another identifier, then 18 a value that its field cannot hold, then 7. Values past the
+ * command's last one are not looked at. */
+#define ZINOVOKY_COMMAND_LEN 6
+uint64_t zinovoky_read_command(uint8_t uplink, const uint8_t *bytes, size_t bytes_len, size_t offset, int64_t *command);
+uint64_t zinovoky_write_command(uint8_t uplink, const int64_t *command, uint8_t *out, size_t out_len, size_t offset);
 
 #ifdef __cplusplus
 }

@@ -1,3 +1,4 @@
 pub mod CAnswers
+pub mod CCommands
 pub mod CGiven
 pub mod CStored

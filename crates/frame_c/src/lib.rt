@@ -2,6 +2,7 @@
 // the function that does the work and turns its answer into one number.
 pub mod amending;
 pub mod building;
+pub mod commands;
 mod conversions;
 pub mod holding;
 pub mod opening;

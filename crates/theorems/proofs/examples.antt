@@ -1,4 +1,5 @@
 pub mod ByList
+pub mod Commands
 pub mod Fips197
 pub mod ProvedTable
 pub mod Rfc4493

@@ -1,4 +1,5 @@
 pub mod Built
+pub mod CommandsBack
 pub mod DataOpens
 pub mod DataParts
 pub mod JoinOpens

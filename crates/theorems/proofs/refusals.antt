@@ -1,7 +1,9 @@
 pub mod AmendingRefusals
 pub mod BridgeRefusals
 pub mod BuildingRefusals
+pub mod CommandRefusals
 pub mod FirstDue
+pub mod NumberRefusals
 pub mod OpeningRefusals
 pub mod PlacedRefusals
 pub mod ReadFirst

@@ -2,7 +2,10 @@ pub mod AmendingConditions
 pub mod BridgeConditions
 pub mod BuildingConditions
 pub mod ByReading
+pub mod CommandConditions
+pub mod CommandsInFrames
 pub mod Exactly
+pub mod NumberConditions
 pub mod OpeningConditions
 pub mod Places
 pub mod PrintedFips197

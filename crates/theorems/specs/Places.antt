@@ -1,9 +1,12 @@
--- Which refusals have a place (docs/RULES.md, Refusals): every call that can refuse with what it is given, the refusal that it
--- answers, and the frame that it reads first, if it reads one.
+-- Which refusals have a place from the reader (docs/RULES.md, Refusals): every call that can refuse with what it is given, the
+-- refusal that it answers, and the frame that it reads first, if it reads one. A step of reading MAC commands is not among them:
+-- its refusal is at the place of the step, as `Steps` of `CommandConditions` says.
 -- Assumes nothing.
 use mathlib.Core.Path.{_≡_}
+use mathlib.Core.Bool.{Bool}
 use mathlib.Core.List.{List}
 use Prim.Native.Nat.{ℕ}
+use lib.IntN.{ℤ}
 use lib.ListN.{length}
 use Rattle.frame.specs.Reading.{readOf}
 use Rattle.frame.specs.ReadingNumbers.{numberOf, placeOf, valuesOf}
@@ -29,9 +32,14 @@ use Rattle.amend.specs.OpenFrame.{openOf}
 use Rattle.amend.specs.SignedOnce.{amendListOf}
 use Rattle.amend.specs.declared.amending.Open.{Open}
 use Rattle.amend_held.specs.HeldCalls.{takenOf}
+use Rattle.mac_commands.specs.Commands.{commandWritten, fieldsWritten}
+use Rattle.mac_commands.specs.InFrame.{inFrame}
+use Rattle.mac_commands.specs.declared.maccommands.Command.{Command}
 use Rattle.show_text.specs.Text.{textOf, textOfInput, describedOf}
 use Rattle.frame_c.specs.CGiven.{dataRefused}
 use Rattle.theorems.specs.BridgeConditions.{storedRefusal}
+use Rattle.theorems.specs.CommandConditions.{writtenRefusal, listsRefusal}
+use Rattle.theorems.specs.NumberConditions.{numbersWritten}
 
 -- ---- calls that read the frame f first
 
@@ -58,6 +66,8 @@ pub data Reads (f : List ℕ) : Type 0 where
   -- opening for amendments, also into a buffer that holds it, and the call on a lent frame
   open-frame : (nwk app : List ℕ) (counter : ℕ) → Reads f
   amend-frame : (nwk app : List ℕ) (counter : ℕ) (list : List ℕ) → Reads f
+  -- where its MAC commands lie
+  command-lists : Reads f
 
 -- the refusal that the call answers, none where it does what it is to
 abbrev pub readsRefusal : (f : List ℕ) → Reads f → Refusal
@@ -78,6 +88,7 @@ readsRefusal f (decrypt-accept key) = openingRefusal (acceptOpened key f .answer
 readsRefusal f (decrypt-accept-checked key) = openingRefusal (acceptOpenedChecked key f .answer)
 readsRefusal f (open-frame nwk app counter) = openOf f nwk app counter .refusal
 readsRefusal f (amend-frame nwk app counter list) = amendFrameOf f nwk app counter list
+readsRefusal f command-lists = listsRefusal (inFrame f)
 
 -- ---- calls that read no frame, or to which a frame that is refused is one more input
 
@@ -91,6 +102,10 @@ pub data Others : Type 0 where
   build-kind : (kind : ℕ) (nwk app : List ℕ) (d : DataParts) (commands body : List ℕ) (room : ℕ) → Others
   build-request : (key : List ℕ) (j : JoinRequestParts) (room : ℕ) → Others
   build-accept : (key : List ℕ) (j : JoinAcceptParts) (channels : List ℕ) (room : ℕ) → Others
+  -- writing a MAC command, also by its identifier and values or by six numbers, into so many bytes from a place on
+  write-command : (c : Command) (room place : ℕ) → Others
+  write-fields : (up : Bool) (id : ℕ) (values : List ℕ) (room place : ℕ) → Others
+  write-numbers : (up : Bool) (numbers : List ℤ) (room place : ℕ) → Others
   -- the text of a frame, and of an input of n bytes: what reading refuses is a text, with number and place
   describe : (f out : List ℕ) → Others
   describe-input : (start : List ℕ) (n : ℕ) (out : List ℕ) → Others
@@ -106,6 +121,9 @@ othersRefusal (build-kind kind nwk app d commands body room) =
 othersRefusal (build-request key j room) = builtRefusal (builtOf (joinRequestRefusal room) (length (joinRequest key j)))
 othersRefusal (build-accept key j channels room) =
     builtRefusal (builtOf (joinAcceptRefusal j channels room) (length (joinAccept key j channels)))
+othersRefusal (write-command c room place) = writtenRefusal (commandWritten c room place)
+othersRefusal (write-fields up id values room place) = writtenRefusal (fieldsWritten up id values room place)
+othersRefusal (write-numbers up numbers room place) = writtenRefusal (numbersWritten up numbers room place)
 othersRefusal (describe f out) = describedOf (textOf f) out .refusal
 othersRefusal (describe-input start n out) = describedOf (textOfInput start n) out .refusal
 

@@ -5,6 +5,7 @@
 use mathlib.Core.Path.{_≡_, refl, sym, ap, _∙_}
 use mathlib.Core.List.{List, [], _∷_}
 use Prim.Native.Nat.{ℕ}
+use lib.IntN.{ℤ}
 use denote.Ref.{now}
 use Rattle.base.proofs.Fixed.{Determined, DeterminedLent}
 use Rattle.frame_opening.specs.FrameOpening.{Result}
@@ -83,6 +84,17 @@ use Rattle.amend_held.proofs.calls.open_into.Reads as amend-held-open-into
 use Rattle.amend_held.proofs.calls.amend_held.Reads as amend-held-amend-held
 use Rattle.amend_held.proofs.calls.amend_list_held.Reads as amend-held-amend-list-held
 use Rattle.amend_held.proofs.calls.frame_of.Reads as amend-held-frame-of
+use Rattle.mac_commands.proofs.maccommands.margin_of.Reads as mac-commands-margin-of
+use Rattle.mac_commands.proofs.maccommands.read_raw.Reads as mac-commands-read-raw
+use Rattle.mac_commands.proofs.maccommands.read_step.Reads as mac-commands-read-step
+use Rattle.mac_commands.proofs.maccommands.values_of.Reads as mac-commands-values-of
+use Rattle.mac_commands.proofs.maccommandcreator.raw_of.Reads as mac-commands-raw-of
+use Rattle.mac_commands.proofs.maccommandcreator.fields_of.Reads as mac-commands-fields-of
+use Rattle.mac_commands.proofs.maccommandcreator.write_command.Reads as mac-commands-write-command
+use Rattle.mac_commands.proofs.maccommandcreator.write_fields.Reads as mac-commands-write-fields
+use Rattle.mac_commands.proofs.in_frame.command_lists.Reads as mac-commands-command-lists
+use Rattle.command_numbers.proofs.numbers_of.Reads as command-numbers-numbers-of
+use Rattle.command_numbers.proofs.write_numbers.Reads as command-numbers-write-numbers
 use Rattle.show_text.proofs.describe_input.Reads as show-text-describe-input
 use Rattle.show_text.proofs.describe.Reads as show-text-describe
 use Rattle.frame_c.proofs.opening.zinovoky_join_request_mic.Reads as c-join-request-mic
@@ -105,6 +117,8 @@ use Rattle.frame_c.proofs.holding.zinovoky_hold.Reads as c-hold
 use Rattle.frame_c.proofs.holding.zinovoky_held_amend.Reads as c-held-amend
 use Rattle.frame_c.proofs.holding.zinovoky_held_amend_list.Reads as c-held-amend-list
 use Rattle.frame_c.proofs.holding.zinovoky_held_frame.Reads as c-held-frame
+use Rattle.frame_c.proofs.commands.zinovoky_read_command.Reads as c-read-command
+use Rattle.frame_c.proofs.commands.zinovoky_write_command.Reads as c-write-command
 
 -- an answer and a frame that were promised as one
 both : (x y : Result) → x ≡ y → (x .answer ≡ y .answer) × (x .bytes ≡ y .bytes)
@@ -113,6 +127,13 @@ both x y e = (ap (λ (r : Result). r .answer) e, ap (λ (r : Result). r .bytes) 
 -- one lent byte, as a list of it
 abbrev one : ℕ → List ℕ
 one b = b ∷ []
+
+-- the same as `DeterminedLent`, where what was lent is numbers with a sign
+abbrev pub DeterminedNumbers : {K : Type 0} {D R S : K → Type 0} → ((κs : K) → S κs → List ℤ)
+    → ((κs : K) → D κs → R κs → S κs → Type 0)
+    → Type 0
+DeterminedNumbers {K} {D} {R} {S} lent post =
+    (κs : K) (a : D κs) (x y : R κs) (s t : S κs) → post κs a x s → post κs a y t → (x ≡ y) × (lent κs s ≡ lent κs t)
 
 -- ---- base
 
@@ -357,6 +378,43 @@ amend-held-amend-list-held-determined κs a x y s t p q = (p .0 ∙ sym (q .0), 
 pub amend-held-frame-of-determined : DeterminedLent (λ κs s. now (s .1 .0)) amend-held-frame-of.Learnt
 amend-held-frame-of-determined κs a x y s t p q = (p .0 ∙ sym (q .0), p .1 ∙ sym (q .1))
 
+-- ---- mac_commands
+
+pub mac-commands-margin-of-determined : Determined mac-commands-margin-of.Learnt
+mac-commands-margin-of-determined κs a x y s t p q = p ∙ sym q
+
+pub mac-commands-read-raw-determined : Determined mac-commands-read-raw.Learnt
+mac-commands-read-raw-determined κs a x y s t p q = p ∙ sym q
+
+pub mac-commands-values-of-determined : Determined mac-commands-values-of.Learnt
+mac-commands-values-of-determined κs a x y s t p q = p ∙ sym q
+
+pub mac-commands-read-step-determined : Determined mac-commands-read-step.Learnt
+mac-commands-read-step-determined κs a x y s t p q = p ∙ sym q
+
+pub mac-commands-raw-of-determined : Determined mac-commands-raw-of.Learnt
+mac-commands-raw-of-determined κs a x y s t p q = p ∙ sym q
+
+pub mac-commands-fields-of-determined : Determined mac-commands-fields-of.Learnt
+mac-commands-fields-of-determined κs a x y s t p q = p ∙ sym q
+
+pub mac-commands-write-command-determined : DeterminedLent (λ κs s. now (s .1 .0)) mac-commands-write-command.Learnt
+mac-commands-write-command-determined κs a x y s t p q = (p .0 ∙ sym (q .0), p .1 ∙ sym (q .1))
+
+pub mac-commands-write-fields-determined : DeterminedLent (λ κs s. now (s .1 .1 .1 .0)) mac-commands-write-fields.Learnt
+mac-commands-write-fields-determined κs a x y s t p q = (p .0 ∙ sym (q .0), p .1 ∙ sym (q .1))
+
+pub mac-commands-command-lists-determined : Determined mac-commands-command-lists.Learnt
+mac-commands-command-lists-determined κs a x y s t p q = p ∙ sym q
+
+-- ---- command_numbers
+
+pub command-numbers-numbers-of-determined : Determined command-numbers-numbers-of.Learnt
+command-numbers-numbers-of-determined κs a x y s t p q = p ∙ sym q
+
+pub command-numbers-write-numbers-determined : DeterminedLent (λ κs s. now (s .1 .1 .0)) command-numbers-write-numbers.Learnt
+command-numbers-write-numbers-determined κs a x y s t p q = (p .0 ∙ sym (q .0), p .1 ∙ sym (q .1))
+
 -- ---- show_text
 
 pub show-text-describe-input-determined : DeterminedLent (λ κs s. now (s .1 .1 .0)) show-text-describe-input.Learnt
@@ -426,3 +484,9 @@ c-held-amend-list-determined κs a x y s t p q = (p .0 ∙ sym (q .0), p .1 ∙ 
 
 pub c-held-frame-determined : DeterminedLent (λ κs s. now (s .1 .0)) c-held-frame.Learnt
 c-held-frame-determined κs a x y s t p q = (p .0 ∙ sym (q .0), p .1 ∙ sym (q .1))
+
+pub c-read-command-determined : DeterminedNumbers (λ κs s. now (s .1 .1 .1 .0)) c-read-command.Learnt
+c-read-command-determined κs a x y s t p q = (p .0 ∙ sym (q .0), p .1 ∙ sym (q .1))
+
+pub c-write-command-determined : DeterminedLent (λ κs s. now (s .1 .1 .0)) c-write-command.Learnt
+c-write-command-determined κs a x y s t p q = (p .0 ∙ sym (q .0), p .1 ∙ sym (q .1))

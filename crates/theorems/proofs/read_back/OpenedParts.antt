@@ -39,13 +39,19 @@ module _ (nwk app f : List ℕ) (counter : ℕ) (h : IsData f) where
       crypted-same f (header f) (sym (take-take 5 (headerEnd f) f (omega (arith, placed f h .fopts)))) key
       (fullCounter counter (fcnt f)) (payload f)
 
-  -- both keys given: header, clear payload, MIC
-  pub opened-both : dataOpened (givenKey nwk) (givenKey app) counter f
-      ≡ result Opened (header f ++ (clearPayload ++ micOf f))
-  unfolding dataOpened openedUnder decrypted cryptedPart
-  opened-both =
+  -- both keys given: the frame with its payload decrypted
+  pub opened-decrypted : dataOpened (givenKey nwk) (givenKey app) counter f ≡ result Opened (decrypted key counter f)
+  unfolding dataOpened openedUnder
+  opened-decrypted =
       ap (onData (λ d. openedUnder (frameKey f (givenKey nwk) (givenKey app)) counter f) (unopened f)) (reads-data f h)
       ∙ ap (λ (k : MaybeKey). openedUnder k counter f) (picked-given (byNetworkKey (header f) (length (payload f))) nwk app)
+
+  -- which is header, clear payload, MIC
+  pub opened-both : dataOpened (givenKey nwk) (givenKey app) counter f
+      ≡ result Opened (header f ++ (clearPayload ++ micOf f))
+  unfolding decrypted cryptedPart
+  opened-both =
+      opened-decrypted
       ∙ ap (result Opened)
       (append-assoc (header f) (crypted key f (fullCounter counter (fcnt f)) (payload f)) (micOf f)
       ∙ ap (λ (s : List ℕ). header f ++ (s ++ micOf f)) clear-is)

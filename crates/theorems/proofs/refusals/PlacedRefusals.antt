@@ -1,5 +1,6 @@
 -- Where a refusal has a place (docs/RULES.md, Refusals), of every call that can refuse: the reader's refusal is handed on, number and
 -- place, and every other one is at place 0. It follows from when each call refuses: a refusal with a place is none of its own.
+-- A step of reading MAC commands is the one call that has places of its own; `step-answers` of `CommandRefusals` fixes them.
 -- Assumes nothing.
 use mathlib.Core.Path.{_≡_, refl, ap, subst}
 use mathlib.Core.Bool.{Bool, true, not}
@@ -26,14 +27,24 @@ use Rattle.frame_build.specs.JoinBuilding.{joinRequestRefusal, joinAcceptRefusa
 use Rattle.frame_build.specs.JoinFrames.{joinRequest, joinAccept}
 use Rattle.frame_build.specs.declared.creator.Built.the-variants.{Frame, Refused as NotBuilt}
 use Rattle.frame_c.specs.CGiven.{dataRefused}
+use Rattle.mac_commands.specs.Commands.{commandWritten, fieldsWritten}
+use Rattle.mac_commands.specs.InFrame.{inFrame}
+use Rattle.mac_commands.specs.declared.in_frame.InFrame.{InFrame}
+use Rattle.mac_commands.specs.declared.in_frame.InFrame.the-variants.{Lists, Refused as NoLists}
+use Rattle.mac_commands.specs.declared.maccommandcreator.Written.{Written}
+use Rattle.mac_commands.specs.declared.maccommandcreator.Written.the-variants.{Upto, Refused as Unwritten}
 use Rattle.show_text.specs.Text.{textOf, textOfInput, textRoom, describedOf}
 use Rattle.theorems.specs.Exactly.{Condition, NotOwn, Refuses}
-use Rattle.theorems.specs.ByReading.{Needs, ByReading, keeps, other, ofReading, AfterReading}
+use Rattle.theorems.specs.ByReading.{Needs, data-frame, ByReading, keeps, other, ofReading, AfterReading}
+use Rattle.theorems.specs.CommandConditions.{Writes, writtenRefusal, listsAnswer, listsRefusal}
+use Rattle.theorems.specs.NumberConditions.{numbersWritten}
 use Rattle.theorems.specs.OpeningConditions.{Tests, openingOf}
-use Rattle.theorems.specs.Places.{Reads, read, view, request-fields, accept-fields, session-keys, request-stored, accept-stored, keys-stored, request-mic, accept-mic, data-mic, decrypt-data, decrypt-data-checked, decrypt-accept, decrypt-accept-checked, open-frame, amend-frame, readsRefusal, Others, amend, amend-list, take-out, build-data, build-kind, build-request, build-accept, describe, describe-input, othersRefusal, Call, reads, others, refusalOf, ReaderRefuses, Placed}
+use Rattle.theorems.specs.Places.{Reads, read, view, request-fields, accept-fields, session-keys, request-stored, accept-stored, keys-stored, request-mic, accept-mic, data-mic, decrypt-data, decrypt-data-checked, decrypt-accept, decrypt-accept-checked, open-frame, amend-frame, command-lists, readsRefusal, Others, amend, amend-list, take-out, build-data, build-kind, build-request, build-accept, write-command, write-fields, write-numbers, describe, describe-input, othersRefusal, Call, reads, others, refusalOf, ReaderRefuses, Placed}
 use Rattle.theorems.proofs.refusals.AmendingRefusals as amends
 use Rattle.theorems.proofs.refusals.BridgeRefusals as bridge
+use Rattle.theorems.proofs.refusals.CommandRefusals as commands
 use Rattle.theorems.proofs.refusals.FirstDue.{refuted, says-told}
+use Rattle.theorems.proofs.refusals.NumberRefusals as numbers
 use Rattle.theorems.proofs.refusals.OpeningRefusals as opens
 use Rattle.theorems.proofs.refusals.ReadFirst.{reading-number}
 
@@ -92,6 +103,21 @@ module _ (f : List ℕ) where
         else-0 = opening-at k cs x a;
       }
 
+  -- the lists of MAC commands
+  lists-at : (cs : List Condition) (x : InFrame) → AfterReading NoLists (listsAnswer f) data-frame f cs x
+      → ((s : Refusal) → Reader s → ⊥) → listsRefusal x .place ≡ 0
+  lists-at cs (Lists l) a n = refl
+  lists-at cs (NoLists r) a n =
+      by-equal (r .place) 0 (λ e. e) (λ m. other-type data-frame r (a .reading r (placed-not-own cs r m) .there refl) n)
+
+  lists-placed : Placed Reader (listsRefusal (inFrame f))
+  lists-placed =
+      let a = commands.command-lists f in
+      record {
+        handed-on = λ s q. ap listsRefusal (a .reading s (reading-not-own [] s tt (reading-number f data-frame s (keeps q))) .back (keeps q));
+        else-0 = lists-at [] (inFrame f) a;
+      }
+
   -- a MIC test
   test-at : (k : Needs) {Right : Type 0} (t : MicTest) → Tests k f Right t → ((s : Refusal) → Reader s → ⊥)
       → testRefusal t .place ≡ 0
@@ -145,6 +171,7 @@ module _ (f : List ℕ) where
   reads-placed (decrypt-accept-checked key) = opening-placed _ _ tt _ (opens.checked-accept key f)
   reads-placed (open-frame nwk app counter) = refusal-placed _ _ tt _ (amends.opening f nwk app counter)
   reads-placed (amend-frame nwk app counter list) = refusal-placed _ _ tt _ (amends.amending-frame f nwk app counter list)
+  reads-placed command-lists = lists-placed
 
 -- ---- of a call that reads none
 
@@ -156,6 +183,10 @@ refuses-at-0 {cs} {x} a = by-equal (x .place) 0 (λ e. e) (λ m. absurd (a .no-o
 
 built-at-0 : (n long : ℕ) → builtRefusal (builtOf n long) .place ≡ 0
 built-at-0 n long = ap (λ (r : Refusal). r .place) (says-told NotBuilt (Frame long) builtRefusal (λ r. refl) refl n)
+
+written-at-0 : {cs : List Condition} {next : ℕ} (w : Written) → Writes cs next w → writtenRefusal w .place ≡ 0
+written-at-0 (Upto m) a = refl
+written-at-0 {cs} (Unwritten q) a = by-equal (q .place) 0 (λ e. e) (λ m. absurd (a .no-other q (placed-not-own cs q m) refl))
 
 described-at-0 : (text out : List ℕ) → describedOf text out .refusal .place ≡ 0
 unfolding describedOf
@@ -172,6 +203,10 @@ others-at-0 (build-kind kind nwk app d commands body room) =
 others-at-0 (build-request key j room) = built-at-0 (joinRequestRefusal room) (length (joinRequest key j))
 others-at-0 (build-accept key j channels room) =
     built-at-0 (joinAcceptRefusal j channels room) (length (joinAccept key j channels))
+others-at-0 (write-command c room place) = written-at-0 (commandWritten c room place) (commands.command-writes c room place)
+others-at-0 (write-fields up id values room place) =
+    written-at-0 (fieldsWritten up id values room place) (commands.fields-write up id values room place)
+others-at-0 (write-numbers up zs room place) = written-at-0 (numbersWritten up zs room place) (numbers.numbers-write up zs room place)
 others-at-0 (describe f out) = described-at-0 (textOf f) out
 others-at-0 (describe-input start n out) = described-at-0 (textOfInput start n) out
 

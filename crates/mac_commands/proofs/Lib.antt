@@ -1,0 +1,10 @@
+pub mod CommandLaws
+pub mod LayoutLaws
+pub mod ListLaws
+pub mod MarginLaws
+pub mod Numbering
+pub mod Packing
+pub mod ReadBack
+pub mod StepLaws
+pub mod TableLaws
+pub mod WriteLaws

@@ -1,0 +1,5 @@
+pub mod Commands
+pub mod InFrame
+pub mod Layout
+pub mod Lists
+pub mod Table

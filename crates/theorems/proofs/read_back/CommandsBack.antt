@@ -1,0 +1,312 @@
+-- MAC commands that are built into a data frame, in FOpts or on port 0, are read from it as those commands, at their places: said
+-- of every outcome that the builder's contract allows. A data frame without a payload on port 0 has no commands there.
+-- Assumes nothing.
+use mathlib.Core.Path.{_≡_, refl, sym, ap, ap₂, _∙_, subst}
+use mathlib.Core.Bool.{Bool, true, false}
+use mathlib.Core.List.{List, [], _∷_, _++_, append-assoc}
+use Prim.Native.Nat.{ℕ, _+_, _-_, _≤_, _<_}
+use native.Mathlib.Omega.{arith}
+use denote.Ref.{now}
+use lib.ListN.{length, take, drop, length-append, length-take}
+use lib.Seq.{sets-eq, take-at, drop-at, take-add, take-take, length-take-le}
+use borrow.Author.Tests.{ne-eqb}
+use Rattle.base.specs.Bytes.{pick, part}
+use Rattle.base.proofs.Cases.{by-order, by-equal}
+use Rattle.frame.specs.Conditions.{IsData}
+use Rattle.frame.specs.Fctrl.{uplinkOf}
+use Rattle.frame.specs.Layout.{mtype, fhdrLength, fport, headerEnd, header, payload, payloadStart, payloadEnd, micOf}
+use Rattle.frame.specs.Reading.{portOf, payloadOf, dataOf, readOf}
+use Rattle.frame.specs.ReadingNumbers.{onData}
+use Rattle.frame.specs.declared.parser.FPort.{FPort}
+use Rattle.frame.specs.declared.parser.FPort.the-variants.{Port}
+use Rattle.frame.specs.declared.parser.FrmPayload.{FrmPayload}
+use Rattle.frame.specs.declared.parser.FrmPayload.the-variants.{Nothing, Data as PlainData, MacCommands}
+use Rattle.frame.proofs.LayoutLaws.{length-header, length-payload}
+use Rattle.frame.proofs.LayoutLaws as layout
+use Rattle.frame.proofs.ReadingLaws.{data-read}
+use Rattle.frame.proofs.ReadingSteps.{port-there, payload-none, payload-data, payload-empty}
+use Rattle.frame_security.specs.Security.{frameKey}
+use Rattle.frame_security.proofs.SecurityLaws.{crypted-long}
+use Rattle.frame_opening.specs.FrameOpening.{Result, decrypted}
+use Rattle.frame_build.specs.DataBuilding.{foptsOf, bodyOf, dataHeader}
+use Rattle.frame_build.specs.declared.creator.Built.the-variants.{Frame}
+use Rattle.frame_build.specs.declared.creator.data_frame.DataParts.{DataParts}
+use Rattle.frame_build.proofs.creator.data_frame.build_data.Reads as build-data
+use Rattle.mac_commands.specs.Commands.{bytesAs}
+use Rattle.mac_commands.specs.InFrame.{commandsFrom, commandsTo, listsOf, inFrame, foptsCommands, payloadCommands}
+use Rattle.mac_commands.specs.Lists.{listAt, bytesAll, Sent, no-more, placed, Output, writeAll}
+use Rattle.mac_commands.specs.declared.in_frame.CommandLists.{CommandLists}
+use Rattle.mac_commands.specs.declared.in_frame.InFrame.the-variants.{Lists, Refused as NoLists}
+use Rattle.mac_commands.specs.declared.maccommands.Command.{Command}
+use Rattle.mac_commands.proofs.ListLaws.{list-empty, list-back, all-written}
+use Rattle.mac_commands.proofs.ReadBack.{bytes-count}
+use Rattle.theorems.specs.BuildingConditions.{NotPort0, absent, other}
+use Rattle.theorems.specs.CommandsInFrames.{listed, openedFrame, CommandsBack}
+use Rattle.theorems.specs.ReadBack.{Always, DataReadsBack}
+use Rattle.theorems.proofs.read_back.Built.{data-reads-back}
+use Rattle.theorems.proofs.read_back.Opened.{decrypted-header, decrypted-read}
+use Rattle.theorems.proofs.read_back.OpenedParts.{opened-decrypted}
+use Rattle.theorems.proofs.refusals.CommandRefusals.{lists-found}
+
+-- ---- a list that stands at a place of a frame
+
+drop-take : (a n : ℕ) (f : List ℕ) → a ≤ length f → drop a (take (a + n) f) ≡ part a n f
+drop-take a n f h = ap (drop a) (take-add a n f) ∙ drop-at (take a f) (part a n f) a (length-take-le a f h)
+
+stands : (up : Bool) (cs : List Command) (f : List ℕ) (a e : ℕ) → Sent up cs → a ≤ length f → e ≡ a + length (bytesAll cs)
+    → part a (length (bytesAll cs)) f ≡ bytesAll cs → listAt up (take e f) a ≡ listed a cs
+stands up cs f a e m l z h =
+    list-back up cs (take e f) a m
+    (ap (λ (k : ℕ). drop a (take k f)) z ∙ drop-take a (length (bytesAll cs)) f l ∙ h)
+
+-- commands without a byte are none
+no-byte-none : (cs : List Command) → length (bytesAll cs) ≡ 0 → cs ≡ []
+unfolding bytesAll
+no-byte-none [] e = refl
+no-byte-none (c ∷ cs) e =
+    let one = bytes-count c in
+    let all : length (bytesAs c ++ bytesAll cs) ≡ length (bytesAs c) + length (bytesAll cs) = length-append (bytesAs c) (bytesAll cs) in
+    absurd (omega arith)
+
+-- ---- a payload without commands
+
+data NoCommands (p : FrmPayload) : Type 0 where
+  nothing : p ≡ Nothing → NoCommands p
+  plain : (a b : ℕ) → p ≡ PlainData a b → NoCommands p
+
+-- the list of such a payload begins and ends at the MIC
+from-mic : (p : FrmPayload) (mic : ℕ) → NoCommands p → (commandsFrom p mic ≡ mic) × (commandsTo p mic ≡ mic)
+from-mic p mic (nothing e) = (ap (λ (q : FrmPayload). commandsFrom q mic) e, ap (λ (q : FrmPayload). commandsTo q mic) e)
+from-mic p mic (plain a b e) = (ap (λ (q : FrmPayload). commandsFrom q mic) e, ap (λ (q : FrmPayload). commandsTo q mic) e)
+
+-- of any bytes g, by the lists of the frame f
+empty-there : (f g : List ℕ) → NoCommands (payloadOf f)
+    → payloadCommands (listsOf (dataOf f)) g ≡ listed (listsOf (dataOf f) .«payload_start») []
+unfolding listsOf dataOf placed
+empty-there f g h =
+    let m = from-mic (payloadOf f) (length f - 4) h in
+    let e : commandsTo (payloadOf f) (length f - 4) ≡ commandsFrom (payloadOf f) (length f - 4) = m .1 ∙ sym (m .0) in
+    list-empty (uplinkOf (mtype f)) (take (commandsTo (payloadOf f) (length f - 4)) g) (commandsFrom (payloadOf f) (length f - 4))
+    (omega (arith, length-take (commandsTo (payloadOf f) (length f - 4)) g))
+
+-- a port that is reported and is not 0
+reported : (q : ℕ) → NotPort0 (Port q) → q ≡ 0 → ⊥
+reported q (absent e) z = let t : _≡_ {A = ℕ} 0 1 = cc in omega arith
+reported q (other p e n) z = n (cc)
+
+no-commands : (f : List ℕ) → NotPort0 (portOf f) → NoCommands (payloadOf f)
+no-commands f p =
+    by-order (length f) (fhdrLength f + 6)
+    (λ l.
+    by-equal (length f) (fhdrLength f + 6) (λ e. plain (payloadStart f) (payloadEnd f) (payload-empty f e))
+    (λ n. nothing (payload-none f (omega arith))))
+    (λ l.
+    plain (payloadStart f) (payloadEnd f)
+    (payload-data f l (reported (fport f) (subst (λ (q : FPort). NotPort0 q) (port-there f l) p))))
+
+-- a frame without a payload on port 0 has the empty list there
+pub no-port-0 : (f : List ℕ) (l : CommandLists) → inFrame f ≡ Lists l → NotPort0 (portOf f)
+    → payloadCommands l f ≡ listed (l .«payload_start») []
+no-port-0 f l e p =
+    let its : l ≡ listsOf (dataOf f) = lists-found f l .there e .1 in
+    ap (λ (x : CommandLists). payloadCommands x f) its
+    ∙ empty-there f f (no-commands f p)
+    ∙ ap (λ (x : CommandLists). listed (x .«payload_start») []) (sym its)
+
+-- ---- a frame that was built, with the bytes of the commands cs
+
+-- the direction is that of the parts
+up-back : (c u : Bool) → uplinkOf (pick c 4 2 + pick u 0 1) ≡ u
+up-back true true = refl
+up-back true false = refl
+up-back false true = refl
+up-back false false = refl
+
+-- where the commands go, by the port
+to-fopts : (port : FPort) (commands : List ℕ) → NotPort0 port → foptsOf port commands ≡ commands
+to-fopts port commands (absent e) = ap (λ (p : FPort). foptsOf p commands) e
+to-fopts port commands (other q e n) =
+    ap (λ (p : FPort). foptsOf p commands) e ∙ ap (λ (b : Bool). pick b [] commands) (ne-eqb q 0 n)
+
+-- a list between what stands before and after it
+between : (h b m : List ℕ) → part (length h) (length b) (h ++ (b ++ m)) ≡ b
+between h b m = ap (take (length b)) (drop-at h (b ++ m) (length h) refl) ∙ take-at b m (length b) refl
+
+module _ (nwk app : List ℕ) (d : DataParts) (cs : List Command) (body f : List ℕ) (sent : Sent (d .uplink) cs)
+    (b : DataReadsBack nwk app d (bytesAll cs) body f) where
+  is-data : IsData f
+  is-data = data-read f (b .back .reads)
+
+  -- what it is opened to
+  g : List ℕ
+  g = openedFrame nwk app (d .fcnt) f
+
+  g-decrypted : g ≡ decrypted (frameKey f nwk app) (d .fcnt) f
+  unfolding g
+  g-decrypted = ap (λ (r : Result). r .bytes) (opened-decrypted nwk app f (d .fcnt) is-data)
+
+  g-parts : g ≡ dataHeader d (bytesAll cs) ++ (bodyOf (d .port) (bytesAll cs) body ++ micOf f)
+  unfolding g
+  g-parts = ap (λ (r : Result). r .bytes) (b .opens .opens)
+
+  -- both have the same lists
+  abbrev its : CommandLists
+  its = listsOf (dataOf f)
+
+  f-found : inFrame f ≡ Lists its
+  unfolding inFrame
+  f-found = ap (onData (λ x. Lists (listsOf x)) NoLists) (b .back .reads)
+
+  g-found : inFrame g ≡ Lists its
+  unfolding inFrame
+  g-found =
+      ap (onData (λ x. Lists (listsOf x)) NoLists)
+      (ap readOf g-decrypted ∙ decrypted-read (frameKey f nwk app) f (d .fcnt) is-data ∙ b .back .reads)
+
+  upward : uplinkOf (mtype f) ≡ d .uplink
+  upward = ap uplinkOf (b .back .type) ∙ up-back (d .confirmed) (d .uplink)
+
+  -- ---- FOpts
+
+  fopts-hold : (xs : List Command) → Sent (d .uplink) xs → foptsOf (d .port) (bytesAll cs) ≡ bytesAll xs
+      → foptsCommands its f ≡ listed 8 xs
+  unfolding listsOf dataOf
+  fopts-hold xs m e =
+      ap (λ (u : Bool). listAt u (take (1 + fhdrLength f) f) 8) upward
+      ∙ stands (d .uplink) xs f 8 (1 + fhdrLength f) m (omega (arith, is-data .least))
+      (b .back .fopts-end ∙ ap (λ (l : List ℕ). 8 + length l) e)
+      (ap (λ (l : List ℕ). part 8 (length l) f) (sym e) ∙ b .back .fopts ∙ e)
+
+  -- opening leaves the header as it was
+  same-fopts : take (1 + fhdrLength f) g ≡ take (1 + fhdrLength f) f
+  same-fopts =
+      let l : 1 + fhdrLength f ≤ headerEnd f = layout.placed f is-data .fopts in
+      ap (take (1 + fhdrLength f)) g-decrypted
+      ∙ sym (take-take (1 + fhdrLength f) (headerEnd f) (decrypted (frameKey f nwk app) (d .fcnt) f) l)
+      ∙ ap (take (1 + fhdrLength f)) (decrypted-header (frameKey f nwk app) f (d .fcnt) is-data)
+      ∙ take-take (1 + fhdrLength f) (headerEnd f) f l
+
+  opened-fopts : foptsCommands its g ≡ foptsCommands its f
+  unfolding listsOf dataOf
+  opened-fopts = ap (λ (l : List ℕ). listAt (uplinkOf (mtype f)) l 8) same-fopts
+
+  -- ---- the payload
+
+  -- none on another port
+  not-held : (q : ℕ) → (q ≡ 0 → ⊥) → d .port ≡ Port q → NoCommands (payloadOf f)
+  not-held q n e =
+      by-order (length (bodyOf (d .port) (bytesAll cs) body)) 0
+      (λ l. plain (payloadStart f) (payloadStart f) (b .back .no-byte q e (omega arith)))
+      (λ l.
+      plain (payloadStart f) (payloadEnd f)
+      (b .opens .holds q e l
+      ∙ ap (λ (t : Bool). pick t (MacCommands (payloadStart f) (payloadEnd f)) (PlainData (payloadStart f) (payloadEnd f)))
+      (ne-eqb q 0 n)))
+
+  none-held : NotPort0 (d .port) → NoCommands (payloadOf f)
+  none-held (absent e) = nothing (b .back .no-payload e)
+  none-held (other q e n) = not-held q n e
+
+  -- on port 0 those that were given
+  module _ (zero : d .port ≡ Port 0) where
+    as-body : bodyOf (d .port) (bytesAll cs) body ≡ bytesAll cs
+    as-body = ap (λ (p : FPort). bodyOf p (bytesAll cs) body) zero
+
+    no-fopts : foptsOf (d .port) (bytesAll cs) ≡ bytesAll []
+    unfolding bytesAll
+    no-fopts = ap (λ (p : FPort). foptsOf p (bytesAll cs)) zero
+
+    payload-long : length (payload f) ≡ length (bytesAll cs)
+    payload-long =
+        sym (crypted-long (frameKey f nwk app) (header f) (d .fcnt) (payload f))
+        ∙ ap length (b .back .payload-back ∙ as-body)
+
+    header-long : length (dataHeader d (bytesAll cs)) ≡ headerEnd f
+    header-long = sym (ap length (b .back .header-back)) ∙ length-header f
+
+    -- where there is a byte of them
+    some-held : 0 < length (bytesAll cs) → payloadCommands its g ≡ listed (its .«payload_start») cs
+    unfolding listsOf dataOf
+    some-held some =
+        let held : payloadOf f ≡ MacCommands (payloadStart f) (payloadEnd f) =
+        b .opens .holds 0 zero (subst (λ (l : List ℕ). 0 < length l) (sym as-body) some) in
+        let long : payloadEnd f - headerEnd f ≡ length (bytesAll cs) = sym (length-payload f) ∙ payload-long in
+        let start : headerEnd f ≡ payloadStart f = omega arith in
+        let end : payloadEnd f ≡ payloadStart f + length (bytesAll cs) = omega arith in
+        let parts : g ≡ dataHeader d (bytesAll cs) ++ (bytesAll cs ++ micOf f) =
+        g-parts ∙ ap (λ (l : List ℕ). dataHeader d (bytesAll cs) ++ (l ++ micOf f)) as-body in
+        let all : length g ≡ length (dataHeader d (bytesAll cs)) + length (bytesAll cs ++ micOf f) =
+        ap length parts ∙ length-append (dataHeader d (bytesAll cs)) (bytesAll cs ++ micOf f) in
+        let there : part (payloadStart f) (length (bytesAll cs)) g ≡ bytesAll cs =
+        ap₂ (λ (k : ℕ) (l : List ℕ). part k (length (bytesAll cs)) l) (sym (header-long ∙ start)) parts
+        ∙ between (dataHeader d (bytesAll cs)) (bytesAll cs) (micOf f) in
+        ap (λ (p : FrmPayload). listAt (uplinkOf (mtype f)) (take (commandsTo p (length f - 4)) g) (commandsFrom p (length f - 4))) held
+        ∙ ap (λ (u : Bool). listAt u (take (payloadEnd f) g) (payloadStart f)) upward
+        ∙ stands (d .uplink) cs g (payloadStart f) (payloadEnd f) sent (omega (arith, header-long)) end there
+        ∙ ap (λ (p : FrmPayload). listed (commandsFrom p (length f - 4)) cs) (sym held)
+
+    all-held : payloadCommands its g ≡ listed (its .«payload_start») cs
+    all-held =
+        by-order (length (bytesAll cs)) 0
+        (λ l.
+        let none : length (bytesAll cs) ≡ 0 = omega arith in
+        empty-there f g (plain (payloadStart f) (payloadStart f) (b .back .no-byte 0 zero (ap length as-body ∙ none)))
+        ∙ ap (listed (its .«payload_start»)) (sym (no-byte-none cs none)))
+        some-held
+
+  commands-back : CommandsBack nwk app d cs f
+  unfolding g
+  commands-back =
+      record {
+        in-fopts =
+            λ p.
+            record {
+              lists = its;
+              found = f-found;
+              fopts = fopts-hold cs sent (to-fopts (d .port) (bytesAll cs) p);
+              payload = empty-there f f (none-held p);
+            };
+        in-fopts-opened =
+            λ p.
+            record {
+              lists = its;
+              found = g-found;
+              fopts = opened-fopts ∙ fopts-hold cs sent (to-fopts (d .port) (bytesAll cs) p);
+              payload = empty-there f g (none-held p);
+            };
+        on-port-0 =
+            λ z.
+            record {
+              lists = its;
+              found = g-found;
+              fopts = opened-fopts ∙ fopts-hold [] no-more (no-fopts z);
+              payload = all-held z;
+            };
+      }
+
+-- ---- the theorem
+
+-- what the call that writes one command leaves, made for each of them in turn, are their bytes
+pub written-bytes : (up : Bool) (cs : List Command) (l : List ℕ) (i : ℕ) → Sent up cs → i + length (bytesAll cs) ≤ length l
+    → part i (length (bytesAll cs)) (writeAll cs l i .bytes) ≡ bytesAll cs
+written-bytes up cs l i m h =
+    let t = bytesAll cs in
+    let rest = drop (i + length t) l in
+    ap (λ (o : Output). part i (length t) (o .bytes)) (all-written up cs l i m h)
+    ∙ ap (part i (length t)) (sets-eq t l i h ∙ append-assoc (take i l) t rest)
+    ∙ ap (take (length t)) (drop-at (take i l) (t ++ rest) i (length-take-le i l (omega arith)))
+    ∙ take-at t rest (length t) refl
+
+-- and where the builder is given the bytes of commands in the frame's direction, they are read back
+pub commands-read-back : Always build-data.Learnt
+    (λ κs a r s.
+    (n : ℕ) → r ≡ Frame n → (cs : List Command) → now (a .1 .0) ≡ bytesAll cs → Sent (a .0 .uplink) cs
+    → CommandsBack (a .1 .1 .1 .0) (a .1 .1 .1 .1 .0) (a .0) cs (take n (now (s .1 .1 .1 .1 .1 .0))))
+commands-read-back κs a r s p n q cs e sent =
+    let d = a .0 in
+    let body = now (a .1 .1 .0) in
+    let nwk = a .1 .1 .1 .0 in
+    let app = a .1 .1 .1 .1 .0 in
+    let f = take n (now (s .1 .1 .1 .1 .1 .0)) in
+    commands-back nwk app d cs body f sent
+    (subst (λ (l : List ℕ). DataReadsBack nwk app d l body f) e (data-reads-back κs a r s p n q))
