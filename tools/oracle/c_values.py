@@ -22,10 +22,17 @@ FOPTS_COMMANDS, FOPTS_PAYLOAD = b"\2\3", b"twenty bytes of text"
 BARE_FIELDS = oracle.DataFields(False, True, bytes(4), 0, 0, None)
 LONGEST_FIELDS = oracle.DataFields(True, True, bytes.fromhex("04030201"), 0, 1, 1)
 
+# Every command up and every one down, by identifiers; numbers that no command has; the largest offset.
+LIST_UP = bytes.fromhex("02 0305 04 0502 06ff39 0702 08 09 0a01")
+LIST_DOWN = bytes.fromhex("021407 035201ff71 040b 05634ea284 06 07083a86a152 080c 092d 0a03f07684")
+UNKNOWN = (0, 1, 11, 13, 128, 255, 256 + 2, 2**32 + 2, -1, -(2**31), -(2**63), 2**63 - 1)
+LARGEST = 2**64 - 1
+
 # By number; 0 refuses nothing.
 NAMES = """none InvalidPayload UnsupportedMajorVersion InvalidMessageType InvalidData InvalidMic InvalidKey
     BufferTooShort InvalidChannelList MacCommandTooBigForFOpts DataAndMacCommandsInPayloadNotAllowed
-    FRMPayloadWithFportZero FrameTooLong FOptsLenSet CounterMismatch OffsetOutside""".split()
+    FRMPayloadWithFportZero FrameTooLong FOptsLenSet CounterMismatch OffsetOutside UnknownCommand CommandCutShort
+    ValueOutOfRange""".split()
 
 PREAMBLE = """\
 /* Written by tools/oracle/c_values.py, from the rules and over OpenSSL: what every_call.c lends, and what must come of it. */
@@ -44,6 +51,32 @@ struct reading {
     size_t len;
     uint64_t reading;
     uint64_t refusal, place, type, has_port, port, payload_kind, payload_at, payload_len, mic_at, fctrl, fopts_len, fcnt;
+};
+"""
+
+COMMAND_READ = """
+/* A step of reading a list: what it answers and, where that is a command (a low byte of 0 and more above it), the command that is
+ * stored; else nothing is. */
+struct command_read {
+    const char *what;
+    uint8_t uplink;
+    const uint8_t *bytes;
+    size_t len, offset;
+    uint64_t answer;
+    int64_t command[6];
+};
+"""
+
+COMMAND_WRITTEN = """
+/* A command written at an offset of a slice that is filled with 0xa5: what it answers, and the whole slice afterwards. */
+struct command_written {
+    const char *what;
+    uint8_t uplink;
+    int64_t command[6];
+    size_t offset;
+    uint64_t answer;
+    size_t len;
+    uint8_t out[10];
 };
 """
 
@@ -172,6 +205,130 @@ def held_frames():
     ]
 
 
+def six_numbers(command):
+    """A command as C has it: its identifier and five values, zeros behind the last."""
+    return [command.identifier, *command.values] + [0] * (5 - len(command.values))
+
+
+def in_braces(values):
+    return "{" + ", ".join(int_literal(value) for value in values) + "}"
+
+
+def int_literal(value):
+    """The least number of 64 bits has no name of its own in C."""
+    return "INT64_MIN" if value == -(2**63) else str(value)
+
+
+def command_lists():
+    """Each with its direction."""
+    return [
+        (1, "LIST_UP", LIST_UP, "every command that goes up"),
+        (0, "LIST_DOWN", LIST_DOWN, "every command that goes down"),
+        (1, "RESERVED_UP", bytes.fromhex("03fd 05fa 0600f9 07fd 0afe"), "commands up with every reserved bit set"),
+        (0, "RESERVED_DOWN", bytes.fromhex("03000000af 04f5 0593000000 08f1 09e5"), "and commands down"),
+        (1, "LIST_UNKNOWN", bytes.fromhex("02040b0203"), "commands up ahead of an unknown identifier"),
+        (0, "LIST_0D", bytes.fromhex("060d"), "a command down, then an identifier of a later version as the last byte"),
+    ]
+
+
+def step_answer(uplink, data, offset):
+    """What a step answers as one number, and the command that it stores, or zeros."""
+    try:
+        command = oracle.read_command(uplink, data, offset)
+    except oracle.Refused as refused:
+        return refused.refusal.place << 8 | refused.refusal.number, [0] * 6
+    return (0, [0] * 6) if command is None else (command.end << 8, six_numbers(command))
+
+
+def step_row(what, uplink, name, data, offset):
+    """A step at an offset; 1 alone is up."""
+    answer, command = step_answer(uplink == 1, data, offset)
+    return f'    {{"{what}", {uplink}, {name}, {len(data)}, 0x{offset:x}, 0x{answer:04x}, {in_braces(command)}}},\n'
+
+
+def whole_list(uplink, name, data):
+    """The steps from the start, one after the other, and the last one."""
+    commands, refusal = oracle.read_commands(uplink == 1, data)
+    end = refusal.place if refusal.number else len(data)
+    offsets = [command.start for command in commands] + [end]
+    return [step_row(f"{name} at {offset}", uplink, name, data, offset) for offset in offsets]
+
+
+def each_cut(uplink, name, data):
+    """Every command of a list without its last byte."""
+    commands, _ = oracle.read_commands(uplink == 1, data)
+    cuts = [(command.start, command.end - 1) for command in commands if command.end > command.start + 1]
+    return [step_row(f"{name} cut at {end}", uplink, name, data[:end], start) for start, end in cuts]
+
+
+def commands_read():
+    rows = []
+    for uplink, name, data, _ in command_lists():
+        rows += whole_list(uplink, name, data)
+    rows += each_cut(1, "LIST_UP", LIST_UP) + each_cut(0, "LIST_DOWN", LIST_DOWN)
+    rows += [step_row(f"direction {number}", number, "LIST_DOWN", LIST_DOWN, 3) for number in (2, 255)]
+    rows += [step_row("past the end", 1, "LIST_UP", LIST_UP, offset) for offset in (len(LIST_UP) + 1, 2**32, LARGEST)]
+    rows += [step_row("no byte", 1, "LIST_UP", b"", offset) for offset in (0, 1, LARGEST)]
+    return COMMAND_READ + "\nstatic const struct command_read COMMANDS_READ[] = {\n" + "".join(rows) + "};\n"
+
+
+def write_row(what, uplink, command, room, offset):
+    """A command of six numbers, written at an offset of so many bytes; 1 alone is up."""
+    out = bytes([records.FILL]) * room
+    try:
+        out, end = oracle.write_command(uplink == 1, command[0], command[1:], out, offset)
+        answer = end << 8
+    except oracle.Refused as refused:
+        answer = refused.refusal.number
+    numbers, after = in_braces(command), in_braces(out or [0])
+    return f'    {{"{what}", {uplink}, {numbers}, 0x{offset:x}, 0x{answer:04x}, {room}, {after}}},\n'
+
+
+def each_written(uplink, data):
+    """Every command of a list into just enough room, between other bytes, and into one byte too few."""
+    rows = []
+    for command in oracle.read_commands(uplink == 1, data)[0]:
+        name, numbers = oracle.layout_of(uplink == 1, command.identifier).name, six_numbers(command)
+        length = command.end - command.start
+        rows.append(write_row(name, uplink, numbers, length, 0))
+        rows.append(write_row(f"{name} between bytes", uplink, numbers, length + 4, 2))
+        rows.append(write_row(f"{name} without room", uplink, numbers, length + 1, 2))
+    return rows
+
+
+def each_limit(uplink, layouts):
+    """Every field at the least and the largest value that it holds, and beyond each, by 32 bits too; the other fields are 0."""
+    rows = []
+    for identifier, found in layouts.items():
+        for place, field in enumerate(found.fields):
+            held = oracle.values_held(field)
+            for value in (held[0] - 1, held[0], held[-1], held[-1] + 1, 2**32):
+                values = [0] * place + [value] + [0] * (4 - place)
+                what = f"{found.name}, {field.name} {value}"
+                rows.append(write_row(what, uplink, [identifier, *values], 1 + found.length, 0))
+    return rows
+
+
+def orders_of_refusal():
+    """16 ahead of 18 ahead of 7; values that the command lacks, which are not looked at; offsets past the end."""
+    beyond = [-1] * 5
+    rows = [write_row("unknown", way, [number, *beyond], 0, 0) for way in (0, 1) for number in UNKNOWN]
+    rows += [write_row("value ahead of room", 1, [3, 2, 0, 0, 0, 0], 0, 0)]
+    rows += [write_row("value ahead of room", 0, [8, 16, 0, 0, 0, 0], 1, LARGEST)]
+    rows += [write_row("values of no field", 1, [6, 255, -7, -1, 2**63 - 1, -(2**63)], 3, 0)]
+    rows += [write_row("values of no field", 0, [6, *beyond], 1, 0)]
+    rows += [write_row("direction 255", 255, [2, 20, 7, 0, 0, 0], 3, 0)]
+    rows += [write_row("outside", 1, [2, *beyond], 1, offset) for offset in (1, 2, 2**32, LARGEST)]
+    rows += [write_row("outside", 0, [2, 20, 7, 0, 0, 0], 9, offset) for offset in (7, 9, LARGEST - 2, LARGEST)]
+    return rows
+
+
+def commands_written():
+    rows = each_written(1, LIST_UP) + each_written(0, LIST_DOWN)
+    rows += each_limit(1, oracle.UP) + each_limit(0, oracle.DOWN) + orders_of_refusal()
+    return COMMAND_WRITTEN + "\nstatic const struct command_written COMMANDS_WRITTEN[] = {\n" + "".join(rows) + "};\n"
+
+
 def readings(arrays):
     frames = {name: value for name, value, _ in arrays}
     good = "DATA DOWN FOPTS BARE PORT_ALONE LONGEST REQUEST ACCEPT LISTED"
@@ -198,8 +355,9 @@ def names():
 
 def text():
     arrays = data_frames() + join_messages() + held_frames()
-    parts = [array(*entry) for entry in arrays]
-    return PREAMBLE + "".join(parts) + READING + readings(arrays) + nwk_ids() + names() + "\n#endif\n"
+    parts = [array(*entry) for entry in arrays + [(name, *rest) for _, name, *rest in command_lists()]]
+    parts += [READING, readings(arrays), nwk_ids(), commands_read(), commands_written(), names()]
+    return PREAMBLE + "".join(parts) + "\n#endif\n"
 
 
 if __name__ == "__main__":

@@ -20,14 +20,17 @@ from records import (
     DECRYPT_DATA_CHECKED,
     DECRYPT_JOIN_ACCEPT,
     DECRYPT_JOIN_ACCEPT_CHECKED,
+    FRAME_COMMANDS,
     HOLD,
     MIC_DATA,
     MIC_JOIN_ACCEPT,
     MIC_JOIN_REQUEST,
     READ,
     READ_CLEAR_JOIN_ACCEPT,
+    READ_COMMANDS,
     READ_JOIN_REQUEST,
     SESSION_KEYS,
+    WRITE_COMMAND,
 )
 
 SEED = 20100
@@ -684,7 +687,218 @@ def places(seed):
         yield from every_call_on(source, frame)
 
 
-LISTS = {"read": read, "opened": opened, "built": built, "amended": amended, "held": held, "places": places}
+# ---- commands: MAC commands, read and written, and those of a frame -------------------------------------------------
+
+DIRECTIONS = (1, 0)
+UNKNOWN_IDENTIFIERS = (0x00, 0x01, 0x0B, 0x0C, 0x0D, 0x0F, 0x10, 0x42, 0x80, 0x82, 0xFF)
+LARGEST_OFFSET = 2**64 - 1
+
+
+def layouts(uplink):
+    return (oracle.UP if uplink else oracle.DOWN).items()
+
+
+def every_layout():
+    for uplink in DIRECTIONS:
+        for identifier, layout in layouts(uplink):
+            yield uplink, identifier, layout
+
+
+def drawn_values(source, layout):
+    """Values that the fields hold, then any in the place of those that there are not."""
+    held = [oracle.values_held(field) for field in layout.fields]
+    return [h[source.counter() % len(h)] for h in held] + [source.counter() - 2**31 for _ in range(5 - len(held))]
+
+
+def drawn_command(source, uplink, identifier=None):
+    """A command with its reserved bits 0; where no identifier is given, a drawn one."""
+    identifier = source.pick(range(2, 11)) if identifier is None else identifier
+    layout = oracle.layout_of(uplink == 1, identifier)
+    return oracle.command_bytes(uplink == 1, identifier, drawn_values(source, layout))
+
+
+def drawn_list(source, uplink, length):
+    """Commands of so many bytes in all; one without values fills up what is left over."""
+    data = b""
+    while len(data) < length:
+        command = drawn_command(source, uplink)
+        fits = len(data) + len(command) <= length
+        data += command if fits else bytes([2 if uplink else 6])
+    return data
+
+
+def listed_from(uplink, data, offset=0):
+    return READ_COMMANDS, [uplink, offset, data]
+
+
+def each_bit(source):
+    """Every command without a bit, with all bits, with each bit alone, reserved ones too, and with drawn ones."""
+    for uplink, identifier, layout in every_layout():
+        bits = 8 * layout.length
+        numbers = [0, (1 << bits) - 1] + [1 << bit for bit in range(bits)]
+        numbers.append(int.from_bytes(source.bytes(layout.length), "little"))
+        data = [bytes([identifier]) + number.to_bytes(layout.length, "little") for number in numbers]
+        yield listed_from(uplink, b"".join(data))
+
+
+def each_margin():
+    """Every value of the byte that holds the margin."""
+    for start in range(0, 256, 64):
+        yield listed_from(1, b"".join(bytes([6, 255 - byte, byte]) for byte in range(start, start + 64)))
+
+
+def each_cut(source):
+    """Every command at every shorter length, alone and behind others, and whole with one byte more."""
+    for uplink, identifier, layout in every_layout():
+        for length in range(1, 1 + layout.length):
+            command = drawn_command(source, uplink, identifier)[:length]
+            yield listed_from(uplink, command)
+            yield listed_from(uplink, drawn_list(source, uplink, 9) + command)
+        yield listed_from(uplink, drawn_command(source, uplink, identifier) + bytes([identifier]))
+
+
+def unknown_identifiers(source):
+    """First, between others, and as the last byte, where a known one would be cut short."""
+    for uplink, identifier in itertools.product(DIRECTIONS, UNKNOWN_IDENTIFIERS):
+        ahead, unknown = drawn_list(source, uplink, 7), bytes([identifier])
+        yield listed_from(uplink, unknown + ahead)
+        yield listed_from(uplink, ahead + unknown + source.bytes(6))
+        yield listed_from(uplink, ahead + unknown)
+
+
+def each_offset(source):
+    """A list from each of its bytes on, also from inside a command, and from its end and beyond."""
+    for uplink in DIRECTIONS:
+        data = b"".join(drawn_command(source, uplink, identifier) for identifier, _ in layouts(uplink))
+        beyond = (len(data) + 1, 255, 256, 65536, 2**32, 2**63, LARGEST_OFFSET)
+        for offset in (*range(len(data) + 1), *beyond):
+            yield listed_from(uplink, data, offset)
+        for offset in (0, 1, 2**32, LARGEST_OFFSET):
+            yield listed_from(uplink, b"", offset)
+
+
+def long_lists(source):
+    """As many bytes as a payload has at most, with the most commands and others; faults far from the start."""
+    yield listed_from(1, bytes([2] * 242))
+    yield listed_from(0, bytes([7] * 242))
+    for uplink in DIRECTIONS:
+        yield listed_from(uplink, drawn_list(source, uplink, 242))
+        yield listed_from(uplink, drawn_list(source, uplink, 300) + b"\x0b", 260)
+        yield listed_from(uplink, drawn_list(source, uplink, 900) + b"\3", 880)
+
+
+def drawn_lists(source):
+    """Commands that are right, and bytes of which about every other one is an identifier."""
+    for uplink in DIRECTIONS:
+        for _ in range(12):
+            yield listed_from(uplink, drawn_list(source, uplink, source.byte() % 40))
+            mixed = bytes(source.pick((*range(2, 11), source.byte())) for _ in range(source.byte() % 30))
+            yield listed_from(uplink, mixed, source.byte() % 4)
+
+
+def written(uplink, identifier, values, room, offset=0):
+    return WRITE_COMMAND, [uplink, identifier, values, room, offset]
+
+
+def each_limit(source):
+    """Every field at both ends of what it holds, at 0, next to these, and far beyond; the others are drawn."""
+    for uplink, identifier, layout in every_layout():
+        for place, field in enumerate(layout.fields):
+            held = oracle.values_held(field)
+            near = {held[0] - 1, held[0], -1, 0, held[-1], held[-1] + 1}
+            for value in (*sorted(near), 2**31 - 1, -(2**31)):
+                values = drawn_values(source, layout)
+                values[place] = value
+                yield written(uplink, identifier, values, 1 + layout.length)
+
+
+def each_room(source):
+    """Every command into just enough room, more and less of it, at the start and behind other bytes."""
+    for uplink, identifier, layout in every_layout():
+        values, length = drawn_values(source, layout), 1 + layout.length
+        start = {(0, 0), (length - 1, 0), (length, 0)}
+        behind = {(length + 2, 3), (length + 3, 3), (length + 7, 3)}
+        past = {(9, offset) for offset in (9, 10, 2**32, 2**64 - length, LARGEST_OFFSET)}
+        for room, offset in sorted(start | behind | past):
+            yield written(uplink, identifier, values, room, offset)
+
+
+def refusals_of_writing(source):
+    """16 ahead of 18 ahead of 7, each pair and all three; values of fields that a command lacks."""
+    for uplink, identifier in itertools.product(DIRECTIONS, UNKNOWN_IDENTIFIERS):
+        for values, room in (([0] * 5, 6), ([-1] * 5, 6), ([-1] * 5, 0)):
+            yield written(uplink, identifier, values, room)
+    for uplink, identifier, layout in every_layout():
+        yield written(uplink, identifier, [-1] * 5, 6)
+        yield written(uplink, identifier, [2**31 - 1] * 5, 0)
+        yield written(uplink, identifier, [16777216] * 5, 6, LARGEST_OFFSET)
+    for place in range(5):
+        values = drawn_values(source, oracle.DOWN[3])
+        values[place] = -1
+        yield written(0, 3, values, 0)
+    yield written(1, 6, [254, -7, -1, 2**31 - 1, -(2**31)], 242, 239)
+    yield written(1, 6, [254, -7, -1, 2**31 - 1, -(2**31)], 242, 240)
+
+
+def drawn_frame(source, first, fopts=b"", port=None, payload=b""):
+    """A data frame with a clear payload; nothing here asks for its MIC."""
+    head = bytes([first]) + source.bytes(4) + bytes([source.byte() & 0xF0 | len(fopts)]) + source.bytes(2)
+    return head + fopts + (b"" if port is None else bytes([port]) + payload) + source.bytes(4)
+
+
+def is_up(first):
+    return 0 if first & 0x20 else 1
+
+
+def lists_in_frames(source):
+    """Every type of data frame with either list, both and none; ports that hold no commands; the longest."""
+    for first in (*FIRST_BYTES, 0x5C, 0x7C):
+        lists = [drawn_list(source, is_up(first), length) for length in (0, 1, 11, 15)]
+        for fopts, port in itertools.product(lists, (None, 0, 1, 255)):
+            yield drawn_frame(source, first, fopts, port, drawn_list(source, is_up(first), 9))
+        yield drawn_frame(source, first, lists[2], 0, b"")
+        yield drawn_frame(source, first, lists[2], 9, b"")
+    for first in FIRST_BYTES[2:]:
+        yield drawn_frame(source, first, b"", 0, drawn_list(source, is_up(first), 242))
+        yield drawn_frame(source, first, drawn_list(source, is_up(first), 15), 0, drawn_list(source, is_up(first), 227))
+
+
+def faults_in_frames(source):
+    """Unknown and cut in FOpts and in the payload, where bytes of the frame follow; the other list is read as well."""
+    for first in FIRST_BYTES:
+        good, ahead = drawn_list(source, is_up(first), 6), drawn_list(source, is_up(first), 4)
+        cut = b"\6\1" if is_up(first) else b"\3\1"
+        for bad in (b"\x0b", b"\x0d", b"\3", cut, ahead + cut, ahead + b"\0" + good):
+            yield drawn_frame(source, first, bad)
+            yield drawn_frame(source, first, bad, 0, good)
+            yield drawn_frame(source, first, good, 0, bad)
+            yield drawn_frame(source, first, bad, 0, ahead + bad)
+            yield drawn_frame(source, first, bad, 7, bad)
+
+
+def commands(seed):
+    source = Source(seed + 6)
+    yield listed_from(1, bytes.fromhex("0307"))
+    yield listed_from(1, bytes.fromhex("06ff39"))
+    for cases in (each_bit, each_cut, unknown_identifiers, each_offset, long_lists, drawn_lists):
+        yield from cases(source)
+    yield from each_margin()
+    for cases in (each_limit, each_room, refusals_of_writing):
+        yield from cases(source)
+    for frames in (lists_in_frames, faults_in_frames, bad_frames, good_frames):
+        for frame in frames(source):
+            yield FRAME_COMMANDS, [frame]
+
+
+LISTS = {
+    "read": read,
+    "opened": opened,
+    "built": built,
+    "amended": amended,
+    "held": held,
+    "places": places,
+    "commands": commands,
+}
 
 
 def bodies_of(cases):

@@ -1,4 +1,4 @@
-"""LoRaWAN 1.0 frames by docs/RULES.md and LoRaWAN 1.0, for making right answers.
+"""LoRaWAN 1.0 frames and MAC commands by docs/RULES.md and LoRaWAN 1.0, for making right answers.
 
 Nothing here is shared with the codec: the cipher and the MAC are OpenSSL's, the rest is written from the
 documents, plainly and without regard to speed. A frame is `bytes`; a call that the codec makes on a lent slice
@@ -27,6 +27,9 @@ FRAME_TOO_LONG = 12
 FOPTS_LEN_SET = 13
 COUNTER_MISMATCH = 14
 OFFSET_OUTSIDE = 15
+UNKNOWN_COMMAND = 16
+COMMAND_CUT_SHORT = 17
+VALUE_OUT_OF_RANGE = 18
 
 FRAME_MAX = 255
 JOIN_REQUEST, JOIN_ACCEPT = 0, 1
@@ -39,7 +42,7 @@ ACCEPTED = Refusal(0, 0)
 
 
 class Refused(Exception):
-    """Ends a call with a refusal. Reading names a place (docs/RULES.md, Refusals); of every other refusal it is 0."""
+    """Ends a call with a refusal. Reading a frame or a command names a place; of every other refusal it is 0."""
 
     def __init__(self, number, place=0):
         super().__init__(number, place)
@@ -466,3 +469,128 @@ def held_bytes(network_key, application_key, counter, frame):
     schedules = key_expansion(network_key) + key_expansion(application_key)
     chains = chain_values(network_key, counter, frame)
     return frame + bytes(255 - len(frame)) + bytes([len(frame)]) + schedules + chains + counter.to_bytes(4, "little")
+
+
+# ---- MAC commands (LoRaWAN 1.0.2, section 5) -----------------------------------------------------------------------
+
+# The bytes behind an identifier are one number, low byte first: a field is the bits of it from `low` on, so many as it
+# is wide. All other bits are reserved: 0 where they are written, not looked at where they are read.
+Field = namedtuple("Field", "name low width signed", defaults=[False])
+Layout = namedtuple("Layout", "name length fields")
+
+
+def layout(name, length, *fields):
+    return Layout(name, length, [Field(*field) for field in fields])
+
+
+DOWN = {
+    0x02: layout("LinkCheckAns", 2, ("margin", 0, 8), ("gateways", 8, 8)),
+    0x03: layout(
+        "LinkADRReq",
+        4,
+        ("data_rate", 4, 4),
+        ("tx_power", 0, 4),
+        ("mask", 8, 16),
+        ("control", 28, 3),
+        ("transmissions", 24, 4),
+    ),
+    0x04: layout("DutyCycleReq", 1, ("max", 0, 4)),
+    0x05: layout("RXParamSetupReq", 4, ("rx1_offset", 4, 3), ("rx2_data_rate", 0, 4), ("frequency", 8, 24)),
+    0x06: layout("DevStatusReq", 0),
+    0x07: layout(
+        "NewChannelReq", 5, ("index", 0, 8), ("frequency", 8, 24), ("max_data_rate", 36, 4), ("min_data_rate", 32, 4)
+    ),
+    0x08: layout("RXTimingSetupReq", 1, ("delay", 0, 4)),
+    0x09: layout("TxParamSetupReq", 1, ("downlink_dwell", 5, 1), ("uplink_dwell", 4, 1), ("max_eirp", 0, 4)),
+    0x0A: layout("DlChannelReq", 4, ("index", 0, 8), ("frequency", 8, 24)),
+}
+UP = {
+    0x02: layout("LinkCheckReq", 0),
+    0x03: layout("LinkADRAns", 1, ("power", 2, 1), ("data_rate", 1, 1), ("mask", 0, 1)),
+    0x04: layout("DutyCycleAns", 0),
+    0x05: layout("RXParamSetupAns", 1, ("rx1_offset", 2, 1), ("rx2_data_rate", 1, 1), ("channel", 0, 1)),
+    0x06: layout("DevStatusAns", 2, ("battery", 0, 8), ("margin", 8, 6, True)),
+    0x07: layout("NewChannelAns", 1, ("range", 1, 1), ("frequency", 0, 1)),
+    0x08: layout("RXTimingSetupAns", 0),
+    0x09: layout("TxParamSetupAns", 0),
+    0x0A: layout("DlChannelAns", 1, ("uplink", 1, 1), ("frequency", 0, 1)),
+}
+
+# A command that was read: its place and that of the next, its identifier, its values in the order of the fields.
+Command = namedtuple("Command", "start end identifier values")
+
+
+def layout_of(uplink, identifier):
+    """None where the identifier is unknown in this direction."""
+    return (UP if uplink else DOWN).get(identifier)
+
+
+def values_held(field):
+    """The values that a field can hold: of a signed one, those of two's complement."""
+    least = -(1 << field.width - 1) if field.signed else 0
+    return range(least, least + (1 << field.width))
+
+
+def value_in(field, number):
+    value = number >> field.low & (1 << field.width) - 1
+    return value if value in values_held(field) else value - (1 << field.width)
+
+
+def read_command(uplink, data, offset):
+    """The command at an offset, or None at or past the end of the list. Refuses in the order 16, 17."""
+    if offset >= len(data):
+        return None
+    identifier = data[offset]
+    found = layout_of(uplink, identifier)
+    if found is None:
+        raise Refused(UNKNOWN_COMMAND, offset)
+    end = offset + 1 + found.length
+    if end > len(data):
+        raise Refused(COMMAND_CUT_SHORT, offset)
+    number = int.from_bytes(data[offset + 1 : end], "little")
+    return Command(offset, end, identifier, [value_in(field, number) for field in found.fields])
+
+
+def read_commands(uplink, data, offset=0):
+    """The commands from an offset on, and the refusal that ends them, if one does."""
+    commands = []
+    try:
+        while (command := read_command(uplink, data, offset)) is not None:
+            commands.append(command)
+            offset = command.end
+    except Refused as refused:
+        return commands, refused.refusal
+    return commands, ACCEPTED
+
+
+def command_bytes(uplink, identifier, values):
+    """A command of these values, of which those past its last field are not looked at. Refuses in the order 16, 18."""
+    found = layout_of(uplink, identifier)
+    if found is None:
+        raise Refused(UNKNOWN_COMMAND)
+    number = 0
+    for field, value in zip(found.fields, values):
+        if value not in values_held(field):
+            raise Refused(VALUE_OUT_OF_RANGE)
+        number += value % (1 << field.width) << field.low
+    return bytes([identifier]) + number.to_bytes(found.length, "little")
+
+
+def write_command(uplink, identifier, values, out, offset):
+    """The slice with a command written at an offset, and the offset past it. Refuses in the order 16, 18, 7."""
+    written = command_bytes(uplink, identifier, values)
+    end = offset + len(written)
+    if end > len(out):
+        raise Refused(BUFFER_TOO_SHORT)
+    return out[:offset] + written + out[end:], end
+
+
+def commands_of(frame):
+    """Whether a data frame goes up, and its commands in FOpts and in a clear payload on port 0.
+
+    Either list is as `read_commands` gives it, with offsets in the frame.
+    """
+    reading = read_as(Data, frame)
+    start, end = reading.payload if reading.commands else (0, 0)
+    fopts = read_commands(reading.uplink, frame[: reading.fopts[1]], reading.fopts[0])
+    return reading.uplink, fopts, read_commands(reading.uplink, frame[:end], start)

@@ -13,7 +13,7 @@ HERE = pathlib.Path(__file__).resolve().parent
 ROOT = HERE.parent.parent
 ORACLE, CRATE, PROGRAM = HERE / "out", ROOT / "host" / "recorded", ROOT / "crates" / "replay"
 BOTH = [(folder, name) for folder in (ORACLE, CRATE) for name in ("opened", "built", "read")]
-LISTS = BOTH + [(ORACLE, name) for name in ("amended", "held", "places")]
+LISTS = BOTH + [(ORACLE, name) for name in ("amended", "held", "places", "commands")]
 
 
 def cases(folder, name):

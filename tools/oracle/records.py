@@ -124,7 +124,19 @@ class History:
         return calls, at
 
 
-BYTE, HALF, WORD, KEY, MAYBE_KEY = Number(1), Number(2), Number(4), Fixed(16), Maybe(16)
+class Values:
+    """Five numbers of four bytes, negative ones in two's complement."""
+
+    def write(self, value):
+        assert len(value) == 5
+        return b"".join(v.to_bytes(4, "little", signed=True) for v in value)
+
+    def read(self, data, at):
+        places = range(at, at + 20, 4)
+        return [int.from_bytes(data[p : p + 4], "little", signed=True) for p in places], at + 20
+
+
+BYTE, HALF, WORD, LONG, KEY, MAYBE_KEY = Number(1), Number(2), Number(4), Number(8), Fixed(16), Maybe(16)
 
 # ---- Answers -----------------------------------------------------------------------------------------------------
 
@@ -254,6 +266,41 @@ def shown_clear(frame):
     return ACCEPTED + b"".join(parts) + numbers + listed
 
 
+def listed_command(uplink, command):
+    """A command that was read, and the bytes that writing it gives back."""
+    written = oracle.command_bytes(uplink, command.identifier, command.values)
+    places = command.start.to_bytes(2, "little") + command.end.to_bytes(2, "little")
+    values = Values().write([*command.values] + [0] * (5 - len(command.values)))
+    return bytes([command.identifier]) + places + values + bytes([len(written)]) + written
+
+
+def listed(uplink, commands, refusal):
+    """The commands of a list; behind them a 0, which no identifier is, and how the list ends."""
+    return b"".join(listed_command(uplink, command) for command in commands) + b"\0" + ended(refusal)
+
+
+def read_commands(uplink, offset, data):
+    return listed(uplink == 1, *oracle.read_commands(uplink == 1, data, offset))
+
+
+def write_command(uplink, identifier, values, room, offset):
+    out = bytes([FILL]) * room
+    try:
+        out, end = oracle.write_command(uplink == 1, identifier, values, out, offset)
+        return ACCEPTED + end.to_bytes(2, "little") + out
+    except Refused as refused:
+        return ended(refused.refusal) + bytes(2) + out
+
+
+def frame_commands(frame):
+    """The direction of a data frame, and the commands of its FOpts and of its payload."""
+    try:
+        uplink, fopts, payload = oracle.commands_of(frame)
+    except Refused as refused:
+        return ended(refused.refusal)
+    return ACCEPTED + bytes([uplink]) + listed(uplink, *fopts) + listed(uplink, *payload)
+
+
 # ---- Kinds of call: fields in their order, and the answer ----------------------------------------------------------
 
 MIC_JOIN_REQUEST, MIC_JOIN_ACCEPT, MIC_DATA = 1, 2, 3
@@ -265,6 +312,7 @@ READ, READ_CLEAR_JOIN_ACCEPT = 13, 14
 HOLD = 15
 READ_JOIN_REQUEST = 16
 AMEND_LENT = 17
+READ_COMMANDS, WRITE_COMMAND, FRAME_COMMANDS = 18, 19, 20
 
 KINDS = {
     MIC_JOIN_REQUEST: ([KEY, Bytes()], tested(oracle.test_mic_join_request)),
@@ -290,6 +338,9 @@ KINDS = {
     HOLD: ([KEY, KEY, WORD, Bytes(), HALF, History()], held),
     READ_JOIN_REQUEST: ([Bytes()], shown_request),
     AMEND_LENT: ([KEY, KEY, WORD, Bytes(), NumberedAmendments()], changed(oracle.amend_lent, frame=-2)),
+    READ_COMMANDS: ([BYTE, LONG, Bytes()], read_commands),
+    WRITE_COMMAND: ([BYTE, BYTE, Values(), HALF, LONG], write_command),
+    FRAME_COMMANDS: ([Bytes()], frame_commands),
 }
 
 

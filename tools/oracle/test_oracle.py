@@ -1,4 +1,4 @@
-"""Published vectors, the crate's documentation, the examples of docs/RULES.md, and the written files.
+"""Published vectors, the crate's documentation, the examples of docs/RULES.md, MAC commands, and the written files.
 
 Run: python3 tools/oracle/test_oracle.py
 """
@@ -208,10 +208,11 @@ class Answers(unittest.TestCase):
 
     def test_every_kind_that_reads_first(self):
         building = {records.BUILD_JOIN_REQUEST, records.BUILD_JOIN_ACCEPT, records.BUILD_DATA}
+        without_frame = building | {records.READ_COMMANDS, records.WRITE_COMMAND}
         source = generate.Source(1)
         for refusal, frame in Places.REFUSED:
-            cases = list(generate.every_call_on(source, frame[:900]))
-            self.assertEqual({kind for kind, _ in cases}, records.KINDS.keys() - building)
+            cases = [*generate.every_call_on(source, frame[:900]), (records.FRAME_COMMANDS, [frame[:900]])]
+            self.assertEqual({kind for kind, _ in cases}, records.KINDS.keys() - without_frame)
             due = records.ended(refusal_of(oracle.read, frame[:900]))
             for body in generate.bodies_of(cases):
                 self.assertTrue(HEX(records.answer(body)).startswith(due))
@@ -276,6 +277,139 @@ class HeldOpen(unittest.TestCase):
         frame = self.build(b"hello")
         self.assertEqual(oracle.take_out(frame, len(frame)), frame)
         self.assertEqual(refusal_of(oracle.take_out, frame, len(frame) - 1), (7, 0))
+
+
+class Commands(unittest.TestCase):
+    """MAC commands by hand, from the text of LoRaWAN 1.0.2, section 5."""
+
+    # Whether it goes up, its bytes, its name and its values.
+    VECTORS = [
+        (True, "02", "LinkCheckReq", []),
+        (False, "02 14 07", "LinkCheckAns", [20, 7]),
+        (False, "03 52 01 ff 71", "LinkADRReq", [5, 2, 0xFF01, 7, 1]),
+        (True, "03 07", "LinkADRAns", [1, 1, 1]),
+        (True, "03 04", "LinkADRAns", [1, 0, 0]),
+        (True, "03 01", "LinkADRAns", [0, 0, 1]),
+        (False, "04 0f", "DutyCycleReq", [15]),
+        (True, "04", "DutyCycleAns", []),
+        (False, "05 53 d2 ad 84", "RXParamSetupReq", [5, 3, 8695250]),
+        (True, "05 06", "RXParamSetupAns", [1, 1, 0]),
+        (False, "06", "DevStatusReq", []),
+        (True, "06 ff 39", "DevStatusAns", [255, -7]),
+        (True, "06 00 1f", "DevStatusAns", [0, 31]),
+        (True, "06 01 20", "DevStatusAns", [1, -32]),
+        (True, "06 fe 3f", "DevStatusAns", [254, -1]),
+        (True, "06 80 00", "DevStatusAns", [128, 0]),
+        (False, "07 03 18 4f 84 50", "NewChannelReq", [3, 8671000, 5, 0]),
+        (True, "07 02", "NewChannelAns", [1, 0]),
+        (False, "08 0f", "RXTimingSetupReq", [15]),
+        (True, "08", "RXTimingSetupAns", []),
+        (False, "09 2d", "TxParamSetupReq", [1, 0, 13]),
+        (True, "09", "TxParamSetupAns", []),
+        (False, "0a 10 18 4f 84", "DlChannelReq", [16, 8671000]),
+        (True, "0a 01", "DlChannelAns", [0, 1]),
+    ]
+
+    # The same with reserved bits set.
+    RESERVED = [
+        (True, "03 fd", [1, 0, 1]),
+        (True, "05 f8", [0, 0, 0]),
+        (True, "06 00 f9", [0, -7]),
+        (True, "06 00 df", [0, 31]),
+        (True, "07 fe", [1, 0]),
+        (True, "0a fd", [0, 1]),
+        (False, "03 00 00 00 8f", [0, 0, 0, 0, 15]),
+        (False, "04 f1", [1]),
+        (False, "05 8f 00 00 00", [0, 15, 0]),
+        (False, "08 f0", [0]),
+        (False, "09 df", [0, 1, 15]),
+    ]
+
+    # How many bytes each command has, by identifiers from 2 on: those down, and those up.
+    LENGTHS = {False: [3, 5, 2, 5, 1, 6, 2, 2, 5], True: [1, 2, 1, 2, 3, 2, 1, 1, 2]}
+
+    def test_vectors(self):
+        for uplink, written, name, values in self.VECTORS:
+            data = HEX(written)
+            command = oracle.read_command(uplink, data, 0)
+            self.assertEqual(command, (0, len(data), data[0], values))
+            self.assertEqual(oracle.layout_of(uplink, data[0]).name, name)
+            self.assertEqual(oracle.command_bytes(uplink, data[0], values), data)
+
+    def test_reserved_bits_are_not_looked_at_and_written_0(self):
+        for uplink, given, values in self.RESERVED:
+            data = HEX(given)
+            self.assertEqual(oracle.read_command(uplink, data, 0).values, values)
+            again = oracle.command_bytes(uplink, data[0], values)
+            self.assertNotEqual(again, data)
+            self.assertEqual(oracle.read_command(uplink, again, 0).values, values)
+
+    def test_lengths_and_cuts(self):
+        for uplink, lengths in self.LENGTHS.items():
+            for identifier, length in enumerate(lengths, 2):
+                data = b"\2\2\2" + bytes([identifier]) + bytes(length - 1)
+                self.assertEqual(oracle.read_command(uplink, data, 3).end, len(data))
+                for cut in range(4, len(data)):
+                    self.assertEqual(refusal_of(oracle.read_command, uplink, data[:cut], 3), (17, 3))
+
+    def test_each_bit_belongs_to_one_field_or_is_reserved(self):
+        for uplink, layouts in ((True, oracle.UP), (False, oracle.DOWN)):
+            for identifier, layout in layouts.items():
+                masks = [(1 << field.width) - 1 << field.low for field in layout.fields]
+                self.assertEqual(sum(masks), sum(masks) & (1 << 8 * layout.length) - 1)
+                self.assertEqual(sum(masks).bit_count(), sum(field.width for field in layout.fields))
+
+    def test_unknown_goes_before_cut(self):
+        for uplink in (True, False):
+            for identifier in (0, 1, 11, 13, 128, 255):
+                self.assertEqual(refusal_of(oracle.read_command, uplink, bytes([6, identifier]), 1), (16, 1))
+
+    def test_ahead_of_a_fault(self):
+        commands, refusal = oracle.read_commands(True, HEX("02 03 05 0b 02"))
+        self.assertEqual((commands, refusal), ([(0, 1, 2, []), (1, 3, 3, [1, 0, 1])], (16, 3)))
+        commands, refusal = oracle.read_commands(True, HEX("02 06 ff"))
+        self.assertEqual((commands, refusal), ([(0, 1, 2, [])], (17, 1)))
+
+    def test_at_and_past_the_end(self):
+        for data, offset in ((b"", 0), (b"\2", 1), (b"\2", 2), (b"\xff", 2**64 - 1)):
+            self.assertEqual(oracle.read_commands(True, data, offset), ([], oracle.ACCEPTED))
+
+    def test_writing_refuses_in_order(self):
+        out = b"\xa5" * 4
+        rows = [(1, [256] * 5, 0, 16), (11, [0] * 5, 9, 16), (-1, [0] * 5, 0, 16), (6, [256, 0], 9, 18)]
+        rows += [(6, [0, 32], 0, 18), (6, [0, -33], 0, 18), (6, [-1, 0], 0, 18), (6, [0, 31], 2, 7), (2, [], 4, 7)]
+        for identifier, values, offset, number in rows:
+            self.assertEqual(refusal_of(oracle.write_command, True, identifier, values, out, offset), (number, 0))
+        self.assertEqual(oracle.write_command(True, 6, [255, -7, 999], out, 1), (HEX("a5 06ff39"), 4))
+
+    def test_written_lists_read_back(self):
+        source = generate.Source(7)
+        for uplink in (True, False):
+            data = generate.drawn_list(source, uplink, 242)
+            commands, refusal = oracle.read_commands(uplink, data)
+            self.assertEqual((refusal, commands[-1].end), (oracle.ACCEPTED, 242))
+            again, end = bytes(242), 0
+            for command in commands:
+                again, end = oracle.write_command(uplink, command.identifier, command.values, again, end)
+            self.assertEqual(again, data)
+
+    def test_commands_of_frames(self):
+        head, mic = HEX("40 04030201 05 0500"), HEX("11223344")
+        fopts, payload = HEX("0306 06ff39"), HEX("02 0a03")
+        due = [(8, 10, 3, [1, 1, 0]), (10, 13, 6, [255, -7])], oracle.ACCEPTED
+        nothing = [], oracle.ACCEPTED
+        inside = [(14, 15, 2, []), (15, 17, 10, [1, 1])], oracle.ACCEPTED
+        for tail, found in ((b"", nothing), (b"\0", nothing), (b"\0" + payload, inside), (b"\1" + payload, nothing)):
+            self.assertEqual(oracle.commands_of(head + fopts + tail + mic), (True, due, found))
+        down = oracle.commands_of(b"\xa0" + head[1:] + fopts + b"\0" + payload + mic)
+        whole = [(8, 13, 3, [0, 6, 0xFF06, 3, 9])], [(14, 17, 2, [10, 3])]
+        self.assertEqual(down, (False, *((commands, oracle.ACCEPTED) for commands in whole)))
+
+    def test_frames_that_are_refused(self):
+        self.assertEqual(refusal_of(oracle.commands_of, frame_of(0x00, 23)), (4, 0))
+        self.assertEqual(refusal_of(oracle.commands_of, frame_of(0x20, 17)), (4, 0))
+        for refusal, frame in Places.REFUSED:
+            self.assertEqual(refusal_of(oracle.commands_of, frame), refusal)
 
 
 class Files(unittest.TestCase):

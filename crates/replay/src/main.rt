@@ -8,6 +8,7 @@ use libc::STDOUT_FILENO;
 
 mod amending;
 mod building;
+mod commands;
 mod holding;
 mod input;
 mod opening;
@@ -23,6 +24,9 @@ fn answer(record: &[u8]) {
         13 => reading::frame(record),
         14 => reading::clear_accept(record),
         16 => reading::request(record),
+        18 => commands::of_list(record),
+        19 => commands::written(record),
+        20 => commands::of_frame(record),
         _ => opening::answer(record),
     }
 }

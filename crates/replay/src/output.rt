@@ -50,6 +50,14 @@ pub fn put_number(n: u32) {
     put((n / 16777216) as u8);
 }
 
+pub fn put_numbers(numbers: [u32; 5]) {
+    let mut i: usize = 0;
+    while i < 5 {
+        put_number(numbers[i]);
+        i += 1;
+    }
+}
+
 // How a call ended: the refusal's number and, where it is not 0, the whole place in eight bytes.
 pub fn put_refusal(refusal: Refusal) {
     put(refusal.number);

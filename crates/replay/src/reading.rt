@@ -7,7 +7,7 @@ use crate::output::put_accepted;
 use crate::output::put_all;
 use crate::output::put_flag;
 use crate::output::put_length;
-use crate::output::put_number;
+use crate::output::put_numbers;
 use crate::output::put_place;
 use crate::output::put_refusal;
 use base::storing::four_at;
@@ -98,14 +98,6 @@ pub fn frame(record: &[u8]) {
     read_frame(record, &mut frame[..length]);
 }
 
-fn put_frequencies(frequencies: [u32; 5]) {
-    let mut i: usize = 0;
-    while i < 5 {
-        put_number(frequencies[i]);
-        i += 1;
-    }
-}
-
 fn put_list(fields: JoinAcceptFields) {
     let list = fields.cf_list;
     match list {
@@ -113,7 +105,7 @@ fn put_list(fields: JoinAcceptFields) {
         CfList::Frequencies => {
             put(1);
             let frequencies = fields.frequencies;
-            put_frequencies(frequencies);
+            put_numbers(frequencies);
         }
         CfList::Masks => {
             put(2);
