@@ -253,6 +253,31 @@ static void taking_out(void) {
     TRY(7, zinovoky_held_frame(held(HELD_LONGEST), ROOM(254)));
 }
 
+_Static_assert(sizeof COMMANDS_READ->command == ZINOVOKY_COMMAND_LEN * sizeof(int64_t),
+               "a command of the oracle's is one of the header's");
+
+/* A step that finds no command stores none. */
+static void command_steps(void) {
+    for (size_t i = 0; i < sizeof COMMANDS_READ / sizeof *COMMANDS_READ; i++) {
+        const struct command_read *due = &COMMANDS_READ[i];
+        int found = due->answer != 0 && zinovoky_refusal(due->answer) == 0;
+        begin_of("zinovoky_read_command", due->what);
+        ended(zinovoky_read_command(due->uplink, lend(due->bytes, due->len), due->len, due->offset,
+                                    room(sizeof due->command, due->command, found ? sizeof due->command : 0)),
+              due->answer);
+    }
+}
+
+static void command_writing(void) {
+    for (size_t i = 0; i < sizeof COMMANDS_WRITTEN / sizeof *COMMANDS_WRITTEN; i++) {
+        const struct command_written *due = &COMMANDS_WRITTEN[i];
+        begin_of("zinovoky_write_command", due->what);
+        ended(zinovoky_write_command(due->uplink, lend(due->command, sizeof due->command),
+                                     room(due->len, due->out, due->len), due->len, due->offset),
+              due->answer);
+    }
+}
+
 /* Every call that reads a frame first answers a refusal of reading as zinovoky_read does, number and place, whatever else it was
  * given: no room for its answer, a counter that is not the frame's. */
 #define FRAME lend(due->frame, due->len), due->len
@@ -296,6 +321,8 @@ int main(void) {
         holding();
         held_amendments();
         taking_out();
+        command_steps();
+        command_writing();
     }
     printf("%u passed, %u failed\n", passed, failed);
     return failed > 0;

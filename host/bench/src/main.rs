@@ -2,6 +2,7 @@
 //! the argument `count` nothing is timed: each call is made `COUNTED` times between two visits of `bench_mark`, where
 //! callgrind can be told to write down what it counted. `run` puts both together.
 
+mod commands;
 mod reference;
 mod rows;
 
@@ -52,7 +53,7 @@ fn timed(calls: &mut [(&'static str, Call)]) -> Vec<f64> {
 
 fn main() {
     let counting = std::env::args().nth(1).as_deref() == Some("count");
-    for mut row in rows::all() {
+    for mut row in rows::all().into_iter().chain(commands::all()) {
         if counting {
             for (who, call) in &mut row.calls {
                 call(); // once ahead, for what is made on first use

@@ -9,10 +9,10 @@ pub type Call = Box<dyn FnMut()>;
 
 pub struct Row {
     pub what: &'static str,
-    /// Bytes of the frame.
+    /// Bytes of the frame, or of the commands.
     pub size: usize,
     /// Who does it, and the call: the port on a frame held open, the port, the port afresh (where it amends), the crate
-    /// over either cipher.
+    /// over either cipher, or without one.
     pub calls: Vec<(&'static str, Call)>,
 }
 
@@ -41,7 +41,7 @@ fn frame(size: usize) -> Vec<u8> {
 }
 
 /// Lends a buffer of its own to the call, again and again.
-fn with(mut buffer: Vec<u8>, mut call: impl FnMut(&mut [u8]) + 'static) -> Call {
+pub fn with(mut buffer: Vec<u8>, mut call: impl FnMut(&mut [u8]) + 'static) -> Call {
     Box::new(move || call(black_box(&mut buffer)))
 }
 

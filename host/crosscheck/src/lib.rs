@@ -2,6 +2,7 @@
 
 pub mod amended;
 pub mod built;
+pub mod commands;
 pub mod held;
 pub mod opened;
 pub mod read_back;
@@ -26,6 +27,9 @@ pub enum Judged {
     Number(u8),
     /// The answer whole; the place of a refusal is the one that the rules name.
     Whole(Vec<u8>),
+    /// Lists of MAC commands of which one has a fault, where the crate says nothing or panics: its commands ahead of the fault,
+    /// and the end that the rules name.
+    ToFault(Vec<u8>),
 }
 
 pub fn number_of_parser(error: &parser::Error) -> u8 {
@@ -62,10 +66,12 @@ fn frame_read(case: &Case) -> Option<&[u8]> {
         | Case::SessionKeys { frame, .. }
         | Case::Read { frame }
         | Case::ReadClearJoinAccept { frame }
-        | Case::ReadJoinRequest { frame } => Some(frame),
+        | Case::ReadJoinRequest { frame }
+        | Case::FrameCommands { frame } => Some(frame),
         Case::Amend(call) | Case::AmendLent(call) => Some(&call.frame),
         Case::Hold(call) => Some(&call.frame),
         Case::BuildJoinRequest(_) | Case::BuildJoinAccept(_) | Case::BuildData(_) => None,
+        Case::ReadCommands { .. } | Case::WriteCommand(_) => None,
     }
 }
 
@@ -101,10 +107,13 @@ pub fn judge<F: Judge>(case: &Case) -> Judged {
         Case::ReadJoinRequest { frame } => opened::read_join_request::<F>(frame),
         Case::AmendLent(call) => amended::lent::<F>(call),
         Case::Hold(call) => held::opening::<F>(call),
+        Case::ReadCommands { uplink, offset, bytes } => commands::read(*uplink, *offset, bytes),
+        Case::WriteCommand(call) => commands::write(call),
+        Case::FrameCommands { frame } => commands::of_frame::<F>(frame),
     }
 }
 
-/// Whether the crate's reader finds in an accepted building, amending or holding what was asked for; none for other answers.
+/// Whether the crate's reader finds in what was built, amended, held or written what was asked for; none for other answers.
 pub fn read_back<F: Judge>(case: &Case, answer: &[u8]) -> Option<bool> {
     if answer[0] != 0 {
         return None;
@@ -116,6 +125,7 @@ pub fn read_back<F: Judge>(case: &Case, answer: &[u8]) -> Option<bool> {
         Case::Amend(call) => Some(amended::read_back::<F>(call, answer)),
         Case::AmendLent(call) => Some(amended::lent_read_back::<F>(call, answer)),
         Case::Hold(call) => Some(held::read_back::<F>(call, answer)),
+        Case::WriteCommand(call) => Some(commands::read_back(call, answer)),
         _ => None,
     }
 }

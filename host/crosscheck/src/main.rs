@@ -1,19 +1,20 @@
 //! Compares the oracle's answers with the crate's. Arguments: the folder with the lists (tools/oracle/out if none is
 //! given), then the lists' names (all if none is given). Ends with 1 if there is a difference.
 
-use crosscheck::records::{answers, cases, hex};
+use crosscheck::records::{answers, cases, hex, Case};
 use crosscheck::refusals::End;
 use crosscheck::{end_due, judge, read_back, Judge, Judged};
 use factory::{OpenSsl, Soft};
 use std::path::{Path, PathBuf};
 use std::{env, fs, process};
 
-const LISTS: [&str; 6] = ["read", "opened", "built", "amended", "held", "places"];
+const LISTS: [&str; 7] = ["read", "opened", "built", "amended", "held", "places", "commands"];
 
 #[derive(Default)]
 struct Counts {
     cases: usize,
     compared: usize,
+    to_fault: usize,
     number_only: usize,
     outside: usize,
     read_back: usize,
@@ -24,6 +25,33 @@ fn differs(list: &str, record: usize, ours: &[u8], crate_says: &str) {
     println!("{list}, record {record}: oracle {}, crate {crate_says}", hex(ours));
 }
 
+impl Counts {
+    /// What the crate says to a case where the oracle says something else, or the rule where the crate is no judge.
+    fn judged<F: Judge>(&mut self, case: &Case, ours: &[u8]) -> Option<String> {
+        let end = || End::split(ours).0;
+        let whole = |theirs: Vec<u8>| (ours != theirs).then(|| hex(&theirs));
+        match judge::<F>(case) {
+            Judged::Outside => {
+                self.outside += 1;
+                let says = "is no judge, the place is not the one that the rules name";
+                (end() != end_due(case, end().number)).then(|| says.into())
+            }
+            Judged::Number(number) => {
+                self.number_only += 1;
+                (end() != End::refused(number)).then(|| format!("{number:02x} (number only)"))
+            }
+            Judged::Whole(theirs) => {
+                self.compared += 1;
+                whole(theirs)
+            }
+            Judged::ToFault(theirs) => {
+                self.to_fault += 1;
+                whole(theirs)
+            }
+        }
+    }
+}
+
 fn compare<F: Judge>(list: &str, folder: &Path) -> Counts {
     let input = fs::read(folder.join(list).with_extension("stdin")).expect("the list's cases");
     let output = fs::read_to_string(folder.join(list).with_extension("stdout")).expect("the list's answers");
@@ -31,29 +59,9 @@ fn compare<F: Judge>(list: &str, folder: &Path) -> Counts {
     assert_eq!(cases.len(), answers.len());
     let mut counts = Counts { cases: cases.len(), ..Counts::default() };
     for (i, (case, ours)) in cases.iter().zip(&answers).enumerate() {
-        let (end, _) = End::split(ours);
-        match judge::<F>(case) {
-            Judged::Outside => {
-                counts.outside += 1;
-                if end != end_due(case, end.number) {
-                    counts.differences += 1;
-                    differs(list, i, ours, "is no judge, the place is not the one that the rules name");
-                }
-            }
-            Judged::Number(number) => {
-                counts.number_only += 1;
-                if end != End::refused(number) {
-                    counts.differences += 1;
-                    differs(list, i, ours, &format!("{number:02x} (number only)"));
-                }
-            }
-            Judged::Whole(theirs) => {
-                counts.compared += 1;
-                if *ours != theirs {
-                    counts.differences += 1;
-                    differs(list, i, ours, &hex(&theirs));
-                }
-            }
+        if let Some(says) = counts.judged::<F>(case, ours) {
+            counts.differences += 1;
+            differs(list, i, ours, &says);
         }
         if let Some(good) = read_back::<F>(case, ours) {
             counts.read_back += 1;
@@ -71,8 +79,8 @@ fn report<F: Judge>(cipher: &str, lists: &[String], folder: &Path) -> usize {
     for list in lists {
         let c = compare::<F>(list, folder);
         println!(
-            "{cipher}, {list}: {} cases, {} compared whole, {} by number, {} outside, {} read back, {} differences",
-            c.cases, c.compared, c.number_only, c.outside, c.read_back, c.differences
+            "{cipher}, {list}: {} cases, {} compared whole, {} up to a fault, {} by number, {} outside, {} read back, {} differences",
+            c.cases, c.compared, c.to_fault, c.number_only, c.outside, c.read_back, c.differences
         );
         differences += c.differences;
     }

@@ -59,6 +59,15 @@ pub struct Hold {
     pub calls: Vec<HeldCall>,
 }
 
+/// A MAC command as numbers; any are given.
+pub struct WriteCommand {
+    pub uplink: bool,
+    pub identifier: u8,
+    pub values: [i32; 5],
+    pub room: usize,
+    pub offset: u64,
+}
+
 /// One call with its arguments.
 pub enum Case {
     MicJoinRequest { app_key: AES128, frame: Vec<u8> },
@@ -78,6 +87,9 @@ pub enum Case {
     Hold(Hold),
     ReadJoinRequest { frame: Vec<u8> },
     AmendLent(Amend),
+    ReadCommands { uplink: bool, offset: u64, bytes: Vec<u8> },
+    WriteCommand(WriteCommand),
+    FrameCommands { frame: Vec<u8> },
 }
 
 /// Takes a record's body apart from the front.
@@ -104,6 +116,14 @@ impl<'a> Body<'a> {
 
     fn u32(&mut self) -> u32 {
         u32::from_le_bytes(self.array())
+    }
+
+    fn u64(&mut self) -> u64 {
+        u64::from_le_bytes(self.array())
+    }
+
+    fn values(&mut self) -> [i32; 5] {
+        std::array::from_fn(|_| self.u32() as i32)
     }
 
     fn bytes(&mut self) -> Vec<u8> {
@@ -212,6 +232,16 @@ fn hold(b: &mut Body) -> Case {
     })
 }
 
+fn write_command(b: &mut Body) -> Case {
+    Case::WriteCommand(WriteCommand {
+        uplink: b.u8() == 1,
+        identifier: b.u8(),
+        values: b.values(),
+        room: b.u16(),
+        offset: b.u64(),
+    })
+}
+
 fn case(body: &[u8]) -> Case {
     let mut b = Body(body);
     let b = &mut b;
@@ -240,6 +270,9 @@ fn case(body: &[u8]) -> Case {
         15 => hold(b),
         16 => Case::ReadJoinRequest { frame: b.bytes() },
         17 => Case::AmendLent(amend(b, Body::list)),
+        18 => Case::ReadCommands { uplink: b.u8() == 1, offset: b.u64(), bytes: b.bytes() },
+        19 => write_command(b),
+        20 => Case::FrameCommands { frame: b.bytes() },
         kind => panic!("a record of kind {kind}"),
     };
     assert!(b.0.is_empty(), "a record that is longer than its fields");

@@ -1,7 +1,8 @@
 //! One case: the crate's answer against the port's where equality is due, and the written rule where it is not.
 
+use crate::commands::number_of_writing;
 use crate::encode::encode;
-use crate::port::{answer, refused};
+use crate::port::{answer, refusal_of, refused};
 use crosscheck::records::{hex, Amend, BuildData, BuildJoinAccept, Case, Hold};
 use crosscheck::refusals::End;
 use crosscheck::{end_due, held, judge, read_back, Judged};
@@ -12,6 +13,7 @@ use lorawan::keys::AES128;
 pub struct Tally {
     pub cases: usize,
     pub whole: usize,
+    pub to_fault: usize,
     pub by_number: usize,
     pub outside: usize,
     pub read_back: usize,
@@ -43,6 +45,7 @@ fn number_outside(case: &Case) -> u8 {
         Case::BuildJoinRequest(_) => 0,
         Case::BuildJoinAccept(call) => join_accept_number(call),
         Case::BuildData(call) => data_number(call),
+        Case::WriteCommand(call) => number_of_writing(call.uplink, call.identifier, &call.values),
         _ => 12, // the rest read a frame, here one over 255 bytes
     }
 }
@@ -75,7 +78,7 @@ fn holding_differs(case: &Case, call: &Hold, ours: &[u8]) -> Option<String> {
     let number = match judge::<OpenSsl>(case) {
         Judged::Outside => number_outside(case),
         Judged::Number(number) => number,
-        Judged::Whole(answer) => answer[0],
+        Judged::Whole(answer) | Judged::ToFault(answer) => answer[0],
     };
     let due = end_due(case, number);
     if End::split(ours).0 != due {
@@ -117,6 +120,10 @@ impl Tally {
                 self.whole += 1;
                 (ours != theirs).then(|| hex(&theirs))
             }
+            Judged::ToFault(theirs) => {
+                self.to_fault += 1;
+                (ours != theirs).then(|| hex(&theirs))
+            }
         }
     }
 
@@ -127,7 +134,7 @@ impl Tally {
             eprintln!("{} cases, {} differences so far", self.cases, self.differences);
         }
         let ours = answer(case);
-        if ours[0] != 0 && ours != refused(case, End::split(&ours).0) {
+        if refusal_of(case, &ours).is_some_and(|end| ours != refused(case, end)) {
             self.differs(case, &ours, "(a refusal that is not bare)");
         }
         if let Case::Hold(call) = case {

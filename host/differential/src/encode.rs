@@ -1,6 +1,6 @@
 //! Case files, as tools/oracle/README.md has them: the counterpart of crosscheck's `records`.
 
-use crosscheck::records::{Amend, BuildData, BuildJoinAccept, BuildJoinRequest, Case, HeldCall, Hold};
+use crosscheck::records::{Amend, BuildData, BuildJoinAccept, BuildJoinRequest, Case, HeldCall, Hold, WriteCommand};
 use lorawan::keys::AES128;
 
 fn bytes(part: &[u8]) -> Vec<u8> {
@@ -73,6 +73,12 @@ fn hold(call: &Hold) -> Vec<u8> {
     head.into_iter().chain(count).chain(call.calls.iter().flat_map(held_call)).collect()
 }
 
+fn write_command(call: &WriteCommand) -> Vec<u8> {
+    let values = call.values.map(i32::to_le_bytes).concat();
+    let head = [19, call.uplink.into(), call.identifier];
+    [&head, &values[..], &room(call.room), &call.offset.to_le_bytes()].concat()
+}
+
 /// A record's body.
 pub fn encode(case: &Case) -> Vec<u8> {
     match case {
@@ -101,6 +107,11 @@ pub fn encode(case: &Case) -> Vec<u8> {
         Case::Hold(call) => hold(call),
         Case::ReadJoinRequest { frame } => [&[16], &bytes(frame)[..]].concat(),
         Case::AmendLent(call) => amend(17, call, list(&call.amendments)),
+        Case::ReadCommands { uplink, offset, bytes: list } => {
+            [&[18, (*uplink).into()], &offset.to_le_bytes()[..], &bytes(list)].concat()
+        }
+        Case::WriteCommand(call) => write_command(call),
+        Case::FrameCommands { frame } => [&[20], &bytes(frame)[..]].concat(),
     }
 }
 

@@ -1,6 +1,7 @@
 //! The intended differences: each is run on both, on the smallest input that shows it, and held to what
 //! docs/DIFFERENCES.md says. What the crate does is written here as the crate's own answer or panic.
 
+use crate::intended_commands as commands;
 use crosscheck::built::RawCommands;
 use crosscheck::opened::{parsed_data, parsed_join_accept};
 use crosscheck::records::hex;
@@ -12,27 +13,27 @@ use lorawan::parser::*;
 use std::panic;
 use zinovoky as port;
 
-const FILL: u8 = 0xA5;
+pub(crate) const FILL: u8 = 0xA5;
 
 /// Both outcomes in words, and whether they are the ones that are written down.
-struct Shown {
+pub(crate) struct Shown {
     crate_says: String,
     port_says: String,
     as_written: bool,
 }
 
-fn shown(crate_says: String, port_says: String, crate_due: &str, port_due: &str) -> Shown {
+pub(crate) fn shown(crate_says: String, port_says: String, crate_due: &str, port_due: &str) -> Shown {
     let as_written = crate_says == crate_due && port_says == port_due;
     Shown { crate_says, port_says, as_written }
 }
 
 /// What a call of the crate comes to, a panic included.
-fn said(call: impl FnOnce() -> String + panic::UnwindSafe) -> String {
+pub(crate) fn said(call: impl FnOnce() -> String + panic::UnwindSafe) -> String {
     panic::catch_unwind(call).unwrap_or_else(|_| "panics".into())
 }
 
 /// The number, the place where there is one, and whether a byte was changed.
-fn refused<T>(answer: port::Result<T>, unchanged: bool) -> String {
+pub(crate) fn refused<T>(answer: port::Result<T>, unchanged: bool) -> String {
     let (number, place) = answer.err().map_or((0, 0), |refusal| (refusal.number(), refusal.place));
     let at = if place == 0 { String::new() } else { format!(" at {place}") };
     format!("{number}{at}, {}", if unchanged { "unchanged" } else { "changed" })
@@ -335,7 +336,7 @@ fn place_of_a_refusal() -> Shown {
 type Difference = (&'static str, fn() -> Shown);
 
 /// In the order of the numbers of the document's rows.
-const ALL: [Difference; 18] = [
+const ALL: [Difference; 27] = [
     ("a join-accept with a channel list", channel_list),
     ("a frame of 256 bytes, read", long_frame),
     ("a frame of 256 bytes, built into 256", long_building),
@@ -354,6 +355,15 @@ const ALL: [Difference; 18] = [
     ("a frame of 256 bytes, built into 255", long_building_into_255),
     ("NwkID of an address", network_of_an_address),
     ("the place of a refusal", place_of_a_refusal),
+    ("faults in a list of commands", commands::silent_faults),
+    ("identifier 0x0d", commands::device_time),
+    ("answers with reserved bits", commands::acknowledged_with_reserved_bits),
+    ("reserved bits written", commands::reserved_bits_written),
+    ("a power ahead of a dwell time", commands::power_ahead_of_dwell),
+    ("a creator by default", commands::default_creator),
+    ("the direction of DevStatusAns", commands::direction_of_a_command),
+    ("the direction of a frame's commands", commands::direction_of_a_frame),
+    ("a command that lacks one byte", commands::one_byte_missing),
 ];
 
 /// Shows each and gives how many are not as written.

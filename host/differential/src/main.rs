@@ -1,10 +1,10 @@
 //! Arguments: a seed (the clock's if none is given), then how many random cases (a million if not said); a quarter as many
-//! more are drawn on frames held open. Ends with 1 if there is a difference, or if an intended one is not as
+//! more are drawn on frames held open, and half as many on MAC commands. Ends with 1 if there is a difference, or if an intended one is not as
 //! docs/DIFFERENCES.md says.
 
 use differential::compare::Tally;
 use differential::random::Random;
-use differential::{cases, intended};
+use differential::{cases, intended, lists};
 use std::time::{Instant, SystemTime, UNIX_EPOCH};
 use std::{env, process};
 
@@ -14,9 +14,10 @@ fn argument(place: usize) -> Option<u64> {
 
 fn report(what: &str, since: &Tally, t: &Tally) {
     println!(
-        "{what}: {} cases, {} compared whole, {} by number, {} by the written rule, {} read back, {} differences",
+        "{what}: {} cases, {} compared whole, {} up to a fault, {} by number, {} by the written rule, {} read back, {} differences",
         t.cases - since.cases,
         t.whole - since.whole,
+        t.to_fault - since.to_fault,
         t.by_number - since.by_number,
         t.outside - since.outside,
         t.read_back - since.read_back,
@@ -42,6 +43,9 @@ fn main() {
     part("every length of commands and payload, built", &mut |r, t| cases::every_data_building(r, |case| t.case(case)));
     part("random", &mut |r, t| (0..count).for_each(|_| t.case(&cases::any(r))));
     part("random histories on held frames", &mut |r, t| (0..count / 4).for_each(|_| t.case(&cases::any_held(r))));
+    part("every short list of commands, read", &mut |r, t| lists::every_short_list(r, |case| t.case(case)));
+    part("every field of every command, written", &mut |r, t| lists::every_writing(r, |case| t.case(case)));
+    part("random commands", &mut |r, t| (0..count / 2).for_each(|_| t.case(&lists::any(r))));
     println!(
         "seed {seed}: {} cases in {} s, {} intended differences not as written, {} differences",
         tally.cases,

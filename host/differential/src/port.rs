@@ -1,6 +1,7 @@
 //! The port on a case, its answer laid out as the oracle lays it out. Whatever is lent lies between guard bytes.
 
-use crosscheck::records::{Amend, BuildData, BuildJoinAccept, BuildJoinRequest, Case, HeldCall, Hold};
+use crate::commands::{command, values};
+use crosscheck::records::{Amend, BuildData, BuildJoinAccept, BuildJoinRequest, Case, HeldCall, Hold, WriteCommand};
 use crosscheck::refusals::End;
 use lorawan::keys::AES128;
 use zinovoky::*;
@@ -133,6 +134,15 @@ fn kind(confirmed: bool, uplink: bool) -> DataKind {
     }
 }
 
+/// The commands of a list that reads to its end and is what writing them gives.
+fn as_commands(direction: Direction, bytes: &[u8]) -> Option<Vec<Command>> {
+    let found: Result<Vec<_>> = read_commands(direction, bytes).collect();
+    let commands: Vec<Command> = found.ok()?.into_iter().map(|(_, command)| command).collect();
+    let mut again = vec![0; bytes.len()];
+    (write_commands(&commands, &mut again) == Ok(bytes.len()) && again == bytes).then_some(commands)
+}
+
+/// Where the bytes are commands, building with those must give the same.
 fn data(call: &BuildData) -> Vec<u8> {
     let fields = Data {
         kind: kind(call.confirmed, call.uplink),
@@ -144,6 +154,10 @@ fn data(call: &BuildData) -> Vec<u8> {
         payload: &call.payload,
     };
     let keys = (NwkSKey(call.network.0), AppSKey(call.application.0));
+    if let Some(commands) = as_commands(fields.kind.direction(), &call.commands) {
+        let same = fields.build_with(&commands, &keys.0, &keys.1) == fields.build(&keys.0, &keys.1);
+        assert!(same, "commands and their bytes give two frames");
+    }
     built(call.room, |out| fields.build_into(&keys.0, &keys.1, out))
 }
 
@@ -200,6 +214,78 @@ fn keys(clear: &[u8], dev_nonce: &[u8; 2], app_key: &AES128) -> Vec<u8> {
     }
 }
 
+fn direction(uplink: bool) -> Direction {
+    if uplink {
+        Direction::Up
+    } else {
+        Direction::Down
+    }
+}
+
+/// The bytes of one command; none where it is refused, which what was read must not be.
+fn written(command: &Command) -> Vec<u8> {
+    let mut out = [0; 6];
+    let end = command.write(&mut out, 0).unwrap_or(0);
+    out[..end].to_vec()
+}
+
+/// The whole list at once is its commands one by one, and with a byte too little nothing.
+fn written_at_once(commands: &[Command]) {
+    let each: Vec<Vec<u8>> = commands.iter().map(written).collect();
+    if each.contains(&Vec::new()) {
+        return;
+    }
+    let one_by_one = &each.concat()[..];
+    let (answer, slice) = lent(&vec![FILL; one_by_one.len() + 1], |out| write_commands(commands, out));
+    assert!(answer == Ok(one_by_one.len()) && slice == [one_by_one, &[FILL]].concat(), "a list is not its commands");
+    if let [ahead @ .., last] = commands {
+        let short = vec![FILL; one_by_one.len() - 1];
+        let (answer, slice) = lent(&short, |out| write_commands(commands, out));
+        let refusal = Reason::BufferTooShort.at(0);
+        let due = ListRefusal { index: ahead.len(), command: *last, refusal };
+        assert!(answer == Err(due) && slice == short, "a refused list changed a byte");
+    }
+}
+
+/// Each command with its places and values, and what writing it gives; then how the list ended.
+fn commands_read(mut list: Commands) -> Vec<u8> {
+    let (mut out, mut commands) = (Vec::new(), Vec::new());
+    let end = loop {
+        let (at, command) = match list.next() {
+            None => break End::ACCEPTED,
+            Some(Err(why)) => break refusal(why),
+            Some(Ok(found)) => found,
+        };
+        let bytes = written(&command);
+        out.push(command.identifier());
+        out.extend([at, list.offset()].iter().flat_map(|&place| (place as u16).to_le_bytes()));
+        out.extend(values(&command).iter().flat_map(|value| value.to_le_bytes()));
+        out.push(bytes.len() as u8);
+        out.extend(bytes);
+        commands.push(command);
+    };
+    assert!(list.next().is_none(), "a list goes on behind its end");
+    written_at_once(&commands);
+    [out, vec![0], end.bytes()].concat()
+}
+
+fn frame_commands(frame: &[u8]) -> Vec<u8> {
+    match read(frame) {
+        Err(why) => refusal(why).bytes(),
+        Ok(Reading::Data(data)) => {
+            let uplink = data.kind().is_uplink().into();
+            [vec![0, uplink], commands_read(data.fopts_commands()), commands_read(data.payload_commands())].concat()
+        }
+        Ok(_) => refusal(Reason::InvalidData.at(0)).bytes(),
+    }
+}
+
+/// None where Rust's types cannot say the command.
+pub fn write_command(call: &WriteCommand) -> Option<Vec<u8>> {
+    let command = command(call.uplink, call.identifier, call.values)?;
+    Some(built(call.room, |out| command.write(out, call.offset as usize)))
+}
+
 /// The port's answer.
 pub fn answer(case: &Case) -> Vec<u8> {
     let network = |key: &AES128| NwkSKey(key.0);
@@ -230,6 +316,19 @@ pub fn answer(case: &Case) -> Vec<u8> {
         Case::Hold(call) => held(call),
         Case::ReadJoinRequest { frame } => request_reading(frame),
         Case::AmendLent(call) => amended_lent(call),
+        Case::ReadCommands { uplink, offset, bytes } => {
+            commands_read(Commands::starting_at(direction(*uplink), bytes, *offset as usize))
+        }
+        Case::WriteCommand(call) => write_command(call).expect("a command that Rust's types can say"),
+        Case::FrameCommands { frame } => frame_commands(frame),
+    }
+}
+
+/// How a call was refused, if it was; reading a list is not: a fault stands behind its commands.
+pub fn refusal_of(case: &Case, answer: &[u8]) -> Option<End> {
+    match case {
+        Case::ReadCommands { .. } => None,
+        _ => Some(End::split(answer).0).filter(|&end| end != End::ACCEPTED),
     }
 }
 
@@ -248,7 +347,8 @@ pub fn refused(case: &Case, end: End) -> Vec<u8> {
         Case::BuildJoinRequest(call) => slice(call.room),
         Case::BuildJoinAccept(call) => slice(call.room),
         Case::BuildData(call) => slice(call.room),
+        Case::WriteCommand(call) => slice(call.room),
         Case::Read { .. } | Case::ReadClearJoinAccept { .. } | Case::ReadJoinRequest { .. } => with(&[]),
-        Case::Amend(_) | Case::Hold(_) => with(&[]),
+        Case::Amend(_) | Case::Hold(_) | Case::ReadCommands { .. } | Case::FrameCommands { .. } => with(&[]),
     }
 }

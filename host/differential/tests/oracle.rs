@@ -2,7 +2,7 @@
 
 use crosscheck::records::{answers, cases, Case};
 use crosscheck::refusals::End;
-use differential::port::answer;
+use differential::port::{answer, write_command};
 use std::path::Path;
 
 fn list(folder: &str, name: &str) -> Vec<(Case, Vec<u8>)> {
@@ -21,17 +21,34 @@ fn due_of_the_port(case: &Case, due: Vec<u8>) -> Vec<u8> {
     }
 }
 
+/// A command is an enum in Rust: an unknown one, and a value beyond a field's type, cannot be said, and must be refused.
+fn cannot_be_said(case: &Case, due: &[u8]) -> bool {
+    match case {
+        Case::WriteCommand(call) if write_command(call).is_none() => {
+            assert!(due[0] == 16 || due[0] == 18);
+            true
+        }
+        _ => false,
+    }
+}
+
 fn compared(folder: &str, names: &[&str]) {
     for name in names {
+        let mut left_out = 0;
         for (place, (case, due)) in list(folder, name).into_iter().enumerate() {
-            assert_eq!(answer(&case), due_of_the_port(&case, due), "{folder}, {name}, record {place}");
+            if cannot_be_said(&case, &due) {
+                left_out += 1;
+            } else {
+                assert_eq!(answer(&case), due_of_the_port(&case, due), "{folder}, {name}, record {place}");
+            }
         }
+        println!("{folder}, {name}: {left_out} cases cannot be said to the safe crate");
     }
 }
 
 #[test]
 fn answers_of_the_oracle() {
-    compared("tools/oracle/out", &["read", "opened", "built", "amended", "held", "places"]);
+    compared("tools/oracle/out", &["read", "opened", "built", "amended", "held", "places", "commands"]);
 }
 
 #[test]

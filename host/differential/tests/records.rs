@@ -4,6 +4,7 @@ use crosscheck::records::{answers, cases};
 use crosscheck::{judge, Judge, Judged};
 use differential::cases::{any, any_held};
 use differential::encode::record;
+use differential::lists;
 use differential::random::Random;
 use factory::{OpenSsl, Soft};
 use std::path::Path;
@@ -11,7 +12,11 @@ use std::path::Path;
 #[test]
 fn written_and_read() {
     let mut random = Random::new(7);
-    let drawn = (0..6000).map(|i| if i < 5000 { any(&mut random) } else { any_held(&mut random) });
+    let drawn = (0..8000).map(|i| match i {
+        0..5000 => any(&mut random),
+        5000..6000 => any_held(&mut random),
+        _ => lists::any(&mut random),
+    });
     let file: Vec<u8> = drawn.flat_map(|case| record(&case)).collect();
     let again: Vec<u8> = cases(&file).iter().flat_map(record).collect();
     assert_eq!(file, again);

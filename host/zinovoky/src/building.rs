@@ -1,6 +1,7 @@
 //! The three builders: a plain struct of fields each, built into a [`Frame`] or into the caller's slice.
 
-use crate::{ffi, AppKey, AppSKey, DataKind, NwkSKey, Result};
+use crate::maccommands::LONGEST_COMMAND;
+use crate::{ffi, write_commands, AppKey, AppSKey, Command, DataKind, NwkSKey, Reason, Result};
 use std::fmt;
 use std::ops::Deref;
 
@@ -171,7 +172,7 @@ pub struct Data<'a> {
     /// All 32 bits; the frame carries the low half.
     pub counter: u32,
     pub port: Option<u8>,
-    /// MAC commands: the payload on port 0, otherwise FOpts and at most 15 bytes.
+    /// MAC commands as raw bytes: the payload on port 0, otherwise FOpts and at most 15 bytes.
     pub commands: &'a [u8],
     pub payload: &'a [u8],
 }
@@ -179,6 +180,37 @@ pub struct Data<'a> {
 impl Data<'_> {
     pub fn build(&self, nwk_skey: &NwkSKey, app_skey: &AppSKey) -> Result<Frame> {
         Frame::built(|out| self.build_into(nwk_skey, app_skey, out))
+    }
+
+    /// Builds with these MAC commands instead of `self.commands`. Refusals: 16 for a command that goes the other way, 18 for
+    /// one that cannot be written, then those of `build_into`.
+    ///
+    /// ```
+    /// use zinovoky::{AppSKey, Command, Data, DataKind, NwkSKey, Reason, Refusal};
+    /// let (nwk_skey, app_skey) = (NwkSKey([2; 16]), AppSKey([1; 16]));
+    /// let fields = Data {
+    ///     kind: DataKind::UnconfirmedUp,
+    ///     dev_addr: [4, 3, 2, 1],
+    ///     fctrl: 0,
+    ///     counter: 1,
+    ///     port: None,
+    ///     commands: &[],
+    ///     payload: &[],
+    /// };
+    /// let answers = [Command::LinkCheckReq, Command::DlChannelAns { uplink: true, frequency: false }];
+    /// let frame = fields.build_with(&answers, &nwk_skey, &app_skey)?;
+    /// assert_eq!(frame[8..11], [2, 10, 2]);
+    /// let other_way = fields.build_with(&[Command::DevStatusReq], &nwk_skey, &app_skey);
+    /// assert_eq!(other_way, Err(Reason::UnknownCommand.at(0)));
+    /// # Ok::<(), Refusal>(())
+    /// ```
+    pub fn build_with(&self, commands: &[Command], nwk_skey: &NwkSKey, app_skey: &AppSKey) -> Result<Frame> {
+        if commands.iter().any(|command| command.direction() != self.kind.direction()) {
+            return Err(Reason::UnknownCommand.at(0));
+        }
+        let mut bytes = vec![0; LONGEST_COMMAND * commands.len()];
+        let length = write_commands(commands, &mut bytes)?;
+        Data { commands: &bytes[..length], ..*self }.build(nwk_skey, app_skey)
     }
 
     /// Writes the frame at the front of `out`, which must have room for 255 bytes, and gives its length. Refusals:

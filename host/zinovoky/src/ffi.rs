@@ -1,7 +1,7 @@
 //! The calls of the C interface (crates/frame_c/zinovoky.h) behind safe functions: the only file with `unsafe`.
 //!
 //! What makes them safe is the same everywhere: a slice goes over as its own pointer and length, a fixed array as a
-//! pointer to as many bytes as the header asks for, and the borrow checker keeps what is written apart from the rest.
+//! pointer to as many bytes or numbers as the header asks for, and the borrow checker keeps what is written apart from the rest.
 
 use crate::packed::Packed;
 use crate::{Reason, Result};
@@ -93,6 +93,9 @@ mod c {
         pub fn zinovoky_held_amend(buffer: *mut u8, offset: usize, value: u8) -> u64;
         pub fn zinovoky_held_amend_list(buffer: *mut u8, amendments: *const u32, amendments_len: usize) -> u64;
         pub fn zinovoky_held_frame(buffer: *const u8, out: *mut u8, out_len: usize) -> u64;
+        pub fn zinovoky_read_command(uplink: u8, bytes: *const u8, len: usize, offset: usize, command: *mut i64)
+            -> u64;
+        pub fn zinovoky_write_command(uplink: u8, command: *const i64, out: *mut u8, len: usize, offset: usize) -> u64;
     }
 }
 
@@ -100,6 +103,9 @@ type Key = [u8; 16];
 
 /// What holds an open frame, ZINOVOKY_HELD_LEN bytes.
 pub type Held = [u8; 868];
+
+/// A MAC command, ZINOVOKY_COMMAND_LEN numbers: its identifier and its values.
+pub type Numbers = [i64; 6];
 
 /// The low byte is the refusal's number or 0; above it stands the refusal's place, or what was built, as a length, or
 /// what was read.
@@ -111,7 +117,7 @@ fn answered(answer: u64) -> Result<u64> {
     }
 }
 
-/// The length of what was built or taken out.
+/// The length of what was built or taken out, or an offset.
 #[inline]
 fn built(answer: u64) -> Result<usize> {
     Ok((answered(answer)? >> 8) as usize)
@@ -327,6 +333,22 @@ pub fn held_amend_list(buffer: &mut Held, amendments: &[crate::Amendment]) -> Re
 pub fn held_frame(buffer: &Held, out: &mut [u8]) -> Result<usize> {
     // SAFETY: see the head of the file.
     built(unsafe { c::zinovoky_held_frame(buffer.as_ptr(), out.as_mut_ptr(), out.len()) })
+}
+
+/// The command at an offset, and the offset of the next one, which is 0 at the end.
+#[inline]
+pub fn read_command(uplink: bool, bytes: &[u8], offset: usize, command: &mut Numbers) -> Result<usize> {
+    let (place, length) = (bytes.as_ptr(), bytes.len());
+    // SAFETY: see the head of the file; six numbers are asked for.
+    built(unsafe { c::zinovoky_read_command(uplink.into(), place, length, offset, command.as_mut_ptr()) })
+}
+
+/// The place past the command.
+#[inline]
+pub fn write_command(uplink: bool, command: &Numbers, out: &mut [u8], offset: usize) -> Result<usize> {
+    let (place, length) = (out.as_mut_ptr(), out.len());
+    // SAFETY: see the head of the file; six numbers are asked for.
+    built(unsafe { c::zinovoky_write_command(uplink.into(), command.as_ptr(), place, length, offset) })
 }
 
 /// Zeros over every byte, by writes that the compiler may not leave out.

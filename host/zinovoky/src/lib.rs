@@ -1,5 +1,5 @@
-//! LoRaWAN 1.0 frames over a proved codec: reading, MIC tests, decryption, session keys, the three builders, and
-//! amendments to the payload of a frame.
+//! LoRaWAN 1.0 frames over a proved codec: reading, MIC tests, decryption, session keys, the three builders,
+//! amendments to the payload of a frame, and the MAC commands of LoRaWAN 1.0.2.
 //!
 //! Every call, on any bytes, ends in its result or in a [`Refusal`], which says why and where a frame is bad; a refusal
 //! changes no byte that was lent. Nothing here panics. The work is done by the static library of the crate `frame_c`,
@@ -31,10 +31,12 @@
 
 mod accept;
 mod building;
+mod command_text;
 #[allow(unsafe_code)]
 mod ffi;
 mod holding;
 mod keys;
+mod maccommands;
 mod opening;
 mod packed;
 mod reading;
@@ -44,6 +46,7 @@ pub use accept::ClearJoinAccept;
 pub use building::{Data, Frame, JoinAccept, JoinRequest, MAX_FRAME};
 pub use holding::OpenFrame;
 pub use keys::{AppKey, AppSKey, NwkSKey, SessionKeys};
+pub use maccommands::{read_commands, write_commands, Command, Commands, Direction, ListRefusal, MAX_EIRP_DBM};
 pub use opening::{
     amend, data_mic, decrypt_data, decrypt_data_checked, decrypt_join_accept, decrypt_join_accept_checked,
     join_accept_mic, join_request_mic, session_keys, Amendment,

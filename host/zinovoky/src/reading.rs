@@ -1,7 +1,7 @@
 //! Reading a frame, and what is found in it.
 
 use crate::packed::Packed;
-use crate::{ffi, Reason, Result};
+use crate::{ffi, Commands, Direction, Reason, Result};
 
 /// The four types of a data frame.
 #[derive(Clone, Copy, Debug, PartialEq, Eq, Hash)]
@@ -20,6 +20,13 @@ impl DataKind {
 
     pub const fn is_confirmed(self) -> bool {
         matches!(self, DataKind::ConfirmedUp | DataKind::ConfirmedDown)
+    }
+
+    pub const fn direction(self) -> Direction {
+        match self.is_uplink() {
+            true => Direction::Up,
+            false => Direction::Down,
+        }
     }
 
     const fn of(number: u8) -> Option<DataKind> {
@@ -143,6 +150,56 @@ impl<'a> DataFields<'a> {
             1 => Payload::Data(bytes),
             _ => Payload::Commands(bytes),
         }
+    }
+
+    /// The commands in FOpts; offsets count from the start of the frame.
+    ///
+    /// ```
+    /// use zinovoky::{read, Command, Reading, Refusal};
+    /// let frame = [0x40, 4, 3, 2, 1, 5, 7, 0, 3, 3, 6, 255, 0x39, 0x11, 0x22, 0x33, 0x44];
+    /// let Reading::Data(data) = read(&frame)? else { panic!("another type") };
+    /// let commands = data.fopts_commands().collect::<Result<Vec<_>, _>>()?;
+    /// let accepted = Command::LinkADRAns { power: false, data_rate: true, mask: true };
+    /// assert_eq!(commands, [(8, accepted), (10, Command::DevStatusAns { battery: 255, margin: -7 })]);
+    /// # Ok::<(), Refusal>(())
+    /// ```
+    #[inline]
+    pub fn fopts_commands(&self) -> Commands<'a> {
+        let start = self.fixed.len();
+        let end = (start + self.packed.fopts_len()).min(self.body.len());
+        Commands::starting_at(self.kind.direction(), &self.body[..end], start)
+    }
+
+    /// The commands of a payload on port 0, which must be decrypted already; of another payload, and of none, the empty
+    /// list. Offsets count from the start of the frame.
+    ///
+    /// ```
+    /// use zinovoky::{decrypt_data_checked, read, AppSKey, Command, Data, DataKind, NwkSKey, Reading, Refusal};
+    /// let (nwk_skey, app_skey) = (NwkSKey([2; 16]), AppSKey([1; 16]));
+    /// let fields = Data {
+    ///     kind: DataKind::UnconfirmedDown,
+    ///     dev_addr: [4, 3, 2, 1],
+    ///     fctrl: 0,
+    ///     counter: 1,
+    ///     port: Some(0),
+    ///     commands: &[],
+    ///     payload: &[],
+    /// };
+    /// let requests = [Command::DevStatusReq, Command::RXTimingSetupReq { delay: 3 }];
+    /// let mut frame = fields.build_with(&requests, &nwk_skey, &app_skey)?;
+    /// decrypt_data_checked(frame.as_mut_bytes(), &nwk_skey, None, 1)?;
+    /// let Reading::Data(data) = read(&frame)? else { panic!("another type") };
+    /// let commands = data.payload_commands().collect::<Result<Vec<_>, _>>()?;
+    /// assert_eq!(commands, [(9, requests[0]), (10, requests[1])]);
+    /// # Ok::<(), Refusal>(())
+    /// ```
+    #[inline]
+    pub fn payload_commands(&self) -> Commands<'a> {
+        let start = match self.payload() {
+            Payload::Commands(_) => self.packed.payload_at(),
+            _ => self.body.len(),
+        };
+        Commands::starting_at(self.kind.direction(), self.body, start)
     }
 
     #[inline]

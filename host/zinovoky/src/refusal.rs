@@ -14,7 +14,7 @@ macro_rules! reasons {
 
         impl Reason {
             /// Every reason, in the order of the numbers.
-            pub const ALL: [Reason; 15] = [$(Reason::$name),*];
+            pub const ALL: [Reason; 18] = [$(Reason::$name),*];
 
             /// The name in docs/RULES.md, which is that of the variant.
             pub const fn name(self) -> &'static str {
@@ -39,7 +39,7 @@ reasons! {
     InvalidMic = 5,
     /// The key that the port selects was not given.
     InvalidKey = 6,
-    /// No room for the answer: 255 bytes for data, 23 for a join-request, 17 or 33 for a join-accept.
+    /// No room for the answer: 255 bytes for data, 23 for a join-request, 17 or 33 for a join-accept, 1 to 6 for a command.
     BufferTooShort = 7,
     /// Over five channels, or one above 16,777,215.
     InvalidChannelList = 8,
@@ -57,10 +57,16 @@ reasons! {
     CounterMismatch = 14,
     /// An amendment's offset is at or past the payload's length.
     OffsetOutside = 15,
+    /// No command that goes this way has the identifier.
+    UnknownCommand = 16,
+    /// The list of commands ends within one.
+    CommandCutShort = 17,
+    /// A command's field cannot hold the value.
+    ValueOutOfRange = 18,
 }
 
 impl Reason {
-    /// The number, 1 to 15.
+    /// The number, 1 to 18.
     ///
     /// ```
     /// use zinovoky::Reason;
@@ -79,7 +85,7 @@ impl Reason {
     /// use zinovoky::Reason;
     /// assert_eq!(Reason::from_number(5), Some(Reason::InvalidMic));
     /// assert_eq!(Reason::from_number(0), None);
-    /// assert_eq!(Reason::from_number(16), None);
+    /// assert_eq!(Reason::from_number(19), None);
     /// ```
     #[inline]
     pub fn from_number(number: u8) -> Option<Reason> {
@@ -104,6 +110,7 @@ impl Reason {
 /// | `InvalidData` of a join message of another length | the frame's length |
 /// | `InvalidData` of a data frame whose header does not fit | 5, the byte at fault |
 /// | `InvalidData` of a frame of another type than the call needs | 0, for none |
+/// | `UnknownCommand`, `CommandCutShort` of a list that is read | where the command begins |
 /// | `FrameTooLong` of a frame to build, and all others | 0, for none |
 ///
 /// Its text says what the place is:
@@ -125,7 +132,7 @@ pub struct Refusal {
 }
 
 impl Refusal {
-    /// The number, 1 to 15.
+    /// The number, 1 to 18.
     pub const fn number(self) -> u8 {
         self.reason.number()
     }
@@ -159,6 +166,9 @@ impl fmt::Display for Refusal {
             (FOptsLenSet, _) => f.write_str("an FCtrl with a low nibble that is not 0"),
             (CounterMismatch, _) => f.write_str("a counter that is not the frame's"),
             (OffsetOutside, _) => f.write_str("an offset at or past the payload's length"),
+            (UnknownCommand, byte) => write!(f, "no command that goes this way has the identifier, byte {byte}"),
+            (CommandCutShort, byte) => write!(f, "the list ends within the command, byte {byte}"),
+            (ValueOutOfRange, _) => f.write_str("a value that the command's field cannot hold"),
         }
     }
 }

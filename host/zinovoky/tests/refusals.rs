@@ -121,6 +121,9 @@ fn texts() {
         (Reason::FOptsLenSet.at(0), "FOptsLenSet: an FCtrl with a low nibble that is not 0"),
         (Reason::CounterMismatch.at(0), "CounterMismatch: a counter that is not the frame's"),
         (Reason::OffsetOutside.at(0), "OffsetOutside: an offset at or past the payload's length"),
+        (Reason::UnknownCommand.at(8), "UnknownCommand: no command that goes this way has the identifier, byte 8"),
+        (Reason::CommandCutShort.at(0), "CommandCutShort: the list ends within the command, byte 0"),
+        (Reason::ValueOutOfRange.at(0), "ValueOutOfRange: a value that the command's field cannot hold"),
     ];
     for (refusal, text) in texts {
         assert_eq!(refusal.to_string(), text);
