@@ -69,31 +69,7 @@ pub number-at-spec : {M : Type 1} → statement M
 number-at-spec =
     tie.close
     (tie.spec
-    returns
-    (λ c. search needs)
-    cast-one
-    returns-2
-    (λ c. search needs)
-    (λ c. search needs)
-    cast-two
-    mul-two
-    add-two-2
-    returns-3
-    (λ c. search needs)
-    (λ c. search needs)
-    cast-three
-    mul-three
-    add-three-2
-    returns-4
-    (λ c. search needs)
-    (λ c. search needs)
-    cast-four
-    mul-four
-    add-four-2
-    returns-5
-    (λ c. search needs)
-    (λ c. search needs)
-    cast-result
-    mul-result
-    add-result-2
+    returns (λ c. search needs) cast-one returns-2 (λ c. search needs) (λ c. search needs) cast-two mul-two add-two-2 returns-3
+    (λ c. search needs) (λ c. search needs) cast-three mul-three add-three-2 returns-4 (λ c. search needs) (λ c. search needs)
+    cast-four mul-four add-four-2 returns-5 (λ c. search needs) (λ c. search needs) cast-result mul-result add-result-2
     returns-6)
