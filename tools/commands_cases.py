@@ -108,7 +108,7 @@ def lines(frame, clear):
     fopts_end = 8 + frame[5] % 16
     start, end = fopts_end + 1, len(frame) - 4
     shown = ["direction " + direction, "fopts %d" % (fopts_end - 8), *list_lines(direction, frame, 8, fopts_end)]
-    if start < end and frame[fopts_end] == 0:
+    if start <= end and frame[fopts_end] == 0:
         if clear:
             shown += ["payload %d" % (end - start), *list_lines(direction, frame, start, end)]
         else:

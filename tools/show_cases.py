@@ -39,7 +39,7 @@ def read(frame):
     header = 7 + frame[5] % 16
     if 5 + header > n:
         return 4, 5
-    port = "%d" % frame[1 + header] if n > header + 6 else "none"
+    port = "%d" % frame[1 + header] if n >= header + 6 else "none"
     payload = "none" if n < header + 6 else "%d %d" % (header + 2, n - 4 - (header + 2))
     return [
         "type %d" % kind,

@@ -9,7 +9,7 @@
  *    3 InvalidMessageType        type 6 or 7, or, of a data frame to build, above 5
  *    4 InvalidData               a length that is wrong for the type, or a frame of another type than the call needs
  *    5 InvalidMic                the MIC differs
- *    6 InvalidKey                the key that the port selects was not given
+ *    6 InvalidKey                the key of the payload was not given: the network key if it is empty or on port 0
  *    7 BufferTooShort            no room for the answer
  *    8 InvalidChannelList        over five channels, or one above 16,777,215
  *    9 MacCommandTooBigForFOpts  commands over 15 bytes and the port absent or not 0
@@ -53,10 +53,10 @@ extern "C" {
  *    8 to 63    the place of the refusal, as above
  *    of an accepted one:
  *    8 to 10    the type: 0 join-request, 1 join-accept, 2 to 5 data
- *   11          whether a port is reported
- *   12 and 13   the payload's kind: 0 none, 1 data, 2 commands
- *   16 to 23    the port, 0 where none is reported
- *   24 to 31    the place of the payload's first byte, which is that of the MIC where there is no payload
+ *   11          whether there is a port
+ *   12 and 13   what the port says of the payload, which may have no byte: 0 there is no port, 1 data, 2 commands (port 0)
+ *   16 to 23    the port, 0 where there is none
+ *   24 to 31    the place of the payload's first byte, which is that of the MIC where it has no byte
  *   32 to 39    the place of the MIC, four bytes, where the payload ends
  *   40 to 47    FCtrl; FOpts are so many bytes from place 8 on as its low nibble says
  *   48 to 63    FCnt

@@ -134,8 +134,7 @@ def read_data(frame):
     mtype = frame[0] >> 5
     uplink = mtype in (2, 4)
     fctrl = frame[5]
-    port = frame[1 + header] if length > header + 6 else None
-    payload = None if length < header + 6 else (header + 2, length - 4)
+    port = frame[1 + header] if length >= header + 6 else None
     return Data(
         mtype=mtype,
         header_length=header,
@@ -144,8 +143,8 @@ def read_data(frame):
         fcnt=frame[6] + 256 * frame[7],
         fopts=(8, 1 + header),
         port=port,
-        payload=payload,
-        commands=payload is not None and port == 0,
+        payload=None if port is None else (header + 2, length - 4),
+        commands=port == 0,
         uplink=uplink,
         adr=bool(fctrl & 0x80),
         adr_ack_req=uplink and bool(fctrl & 0x40),
@@ -197,8 +196,10 @@ def key_stream(key, frame, counter, length):
     return stream[:length]
 
 
-def selected_key(port, network_key, application_key):
-    return network_key if port is None or port == 0 else application_key
+def selected_key(reading, network_key, application_key):
+    """The network key where there is no byte of payload, and on port 0."""
+    start, end = reading.payload or (0, 0)
+    return network_key if start == end or reading.port == 0 else application_key
 
 
 def crypt_payload(frame, reading, key, counter):
@@ -238,7 +239,7 @@ def test_mic_data(network_key, counter, frame):
 def decrypt_data(network_key, application_key, counter, frame):
     """Plain decryption: reading, 6. A key that was not given is None."""
     reading = read_as(Data, frame)
-    key = selected_key(reading.port, network_key, application_key)
+    key = selected_key(reading, network_key, application_key)
     if key is None:
         raise Refused(INVALID_KEY)
     return crypt_payload(frame, reading, key, full_counter(counter, reading.fcnt))
@@ -336,7 +337,7 @@ def seal_data(clear, network_key, application_key, counter):
     """The clear frame with its payload encrypted and its MIC appended."""
     unsigned = clear + bytes(4)
     reading = read_data(unsigned)
-    key = selected_key(reading.port, network_key, application_key)
+    key = selected_key(reading, network_key, application_key)
     message = crypt_payload(unsigned, reading, key, counter)[:-4]
     return message + data_mic(network_key, counter, message)
 

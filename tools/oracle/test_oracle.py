@@ -106,7 +106,7 @@ class Rules(unittest.TestCase):
         reading = oracle.read(frame_of(0x40, 13, b5=1))
         self.assertEqual((reading.fopts, reading.payload), ((8, 9), None))
         reading = oracle.read(frame_of(0x40, 13, b5=0, b8=0))
-        self.assertEqual((reading.port, reading.payload, reading.commands), (None, (9, 9), False))
+        self.assertEqual((reading.port, reading.payload, reading.commands), (0, (9, 9), True))
         reading = oracle.read(frame_of(0x40, 14, b5=0, b8=0))
         self.assertEqual((reading.port, reading.payload, reading.commands), (0, (9, 10), True))
 
@@ -118,6 +118,16 @@ class Rules(unittest.TestCase):
         self.assertEqual(self.refused(frame_of(0x40, 256)), [(12, 256)])
         reading = oracle.read(frame_of(0x5C, 12, b5=0))
         self.assertEqual((reading.mtype, reading.port, reading.payload), (2, None, None))
+
+    def test_p17(self):
+        reading = oracle.read(frame_of(0x40, 13, b5=0, b8=5))
+        self.assertEqual((reading.port, reading.payload, reading.commands), (5, (9, 9), False))
+
+    def test_a_port_with_nothing_behind_it_is_under_the_network_key(self):
+        for port in (0, 5):
+            frame = frame_of(0x40, 13, b5=0, b8=port)
+            self.assertEqual(oracle.decrypt_data(bytes(16), None, 0, frame), frame)
+            self.assertEqual(refusal_of(oracle.decrypt_data, None, bytes(16), 0, frame), (6, 0))
 
     def test_p14_to_p16(self):
         self.assertEqual(oracle.full_counter(0x0001FFFF, 2), 0x00010002)

@@ -4,12 +4,12 @@ use mathlib.Core.Path.{_≡_, refl, sym, ap, subst}
 use mathlib.Core.List.{List}
 use Prim.Native.Nat.{ℕ, _+_, _-_, _≤_}
 use native.Mathlib.Omega.{arith}
-use lib.Dec.{ltb, eqb}
+use lib.Dec.{eqb}
 use lib.ListN.{length}
-use borrow.Author.Tests.{ltb-false}
+use borrow.Author.Tests.{leb-true}
 use Rattle.base.proofs.Cases.{by-bool}
 use Rattle.frame.specs.Layout.{fhdrLength, hasPort, fport}
-use Rattle.frame.specs.Reading.{payloadOf, dataOf, readOf}
+use Rattle.frame.specs.Reading.{portOf, payloadOf, dataOf, readOf}
 use Rattle.frame.specs.ReadingNumbers.{onData}
 use Rattle.frame.specs.Conditions.{IsData}
 use Rattle.frame.specs.declared.refusals.Refusal.{Refusal}
@@ -30,16 +30,15 @@ abbrev Spans : ℕ → ℕ → FrmPayload → Type 0
 Spans n m p = (commandsFrom p m ≤ commandsTo p m) × (commandsTo p m ≤ n)
 
 payload-spans : (f : List ℕ) → Spans (length f) (length f - 4) (payloadOf f)
-unfolding payloadOf
+unfolding payloadOf portOf
 payload-spans f =
     let upto : length f - 4 ≤ length f = omega arith in
     let none : length f - 4 ≤ length f - 4 = omega arith in
-    by-bool (ltb (length f) (fhdrLength f + 6)) (λ e. simp e (none, upto))
-    (λ e.
-    let ends : fhdrLength f + 2 ≤ length f - 4 = omega (arith, ltb-false (length f) (fhdrLength f + 6) e) in
     by-bool (hasPort f)
-    (λ p. by-bool (eqb (fport f) 0) (λ z. simp (e, p, z) (ends, upto)) (λ z. simp (e, p, z) (none, upto)))
-    (λ p. simp (e, p) (none, upto)))
+    (λ e.
+    let ends : fhdrLength f + 2 ≤ length f - 4 = omega (arith, leb-true (fhdrLength f + 6) (length f) e) in
+    by-bool (eqb (fport f) 0) (λ z. simp (e, z) (ends, upto)) (λ z. simp (e, z) (none, upto)))
+    (λ e. simp e (none, upto))
 
 within-data : (f : List ℕ) → IsData f → Within f (listsOf (dataOf f))
 unfolding listsOf dataOf

@@ -178,11 +178,11 @@ fn print_direction(uplink: bool) -> bool {
     }
 }
 
-// What stands on port 0, if there is anything.
+// The list on port 0, if there is one.
 fn print_payload(frame: &[u8], lists: CommandLists, clear: bool) -> bool
     requires { ⌜ Within (now frame) lists ⌝ }
 {
-    if lists.payload_start == lists.payload_end {
+    if !lists.on_port_0 {
         return true;
     }
     if !clear {

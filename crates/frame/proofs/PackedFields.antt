@@ -49,8 +49,8 @@ kind-fits (MacCommands a b) = omega arith
 module _ (f : List ℕ) (b : AreBytes f) where
   port-fits : portNumber (portOf f) < 256
   port-fits =
-      by-order (length f) (fhdrLength f + 6) (λ h. rw (steps.port-absent f h) (omega arith))
-      (λ h. rw (steps.port-there f h) (b (1 + fhdrLength f)))
+      by-order (fhdrLength f + 6) (length f) (λ h. rw (steps.port-there f h) (b (1 + fhdrLength f)))
+      (λ h. rw (steps.port-absent f h) (omega arith))
 
   data-fits : IsData f → Fit (bitsOfData (dataOf f))
   unfolding dataOf

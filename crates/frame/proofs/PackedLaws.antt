@@ -5,7 +5,10 @@ use mathlib.Core.List.{List}
 use mathlib.Core.Logic.{⊎-elim}
 use Prim.Native.Nat.{ℕ, _+_, _-_, _*_, _%_, _≤_, _<_}
 use native.Mathlib.Omega.{arith}
+use lib.Dec.{eqb}
 use lib.ListN.{length}
+use borrow.Author.Tests.{eq-eqb, ne-eqb}
+use Rattle.base.specs.Bytes.{pick}
 use Rattle.base.proofs.Cases.{by-order, by-equal}
 use Rattle.frame.specs.Layout.{mtype, fctrl, fcnt, fhdrLength, fport, headerEnd}
 use Rattle.frame.specs.Reading.{portOf, payloadOf, dataOf, readOf}
@@ -52,35 +55,22 @@ module _ (f : List ℕ) where
   pub start : 5 + fhdrLength f ≤ length f → payloadAt (length f - 4) (payloadOf f) ≡ headerEnd f
   start h =
       by-order (fhdrLength f + 6) (length f)
-      (λ l.
-      by-equal (length f) (fhdrLength f + 6)
-      (λ e. rw (steps.payload-empty f e) (omega arith))
-      (λ n.
-      let k : fhdrLength f + 6 < length f = omega arith in
+      (λ k.
       by-equal (fport f) 0 (λ z. rw (steps.payload-commands f k z) (omega arith))
-      (λ z. rw (steps.payload-data f k z) (omega arith))))
+      (λ z. rw (steps.payload-data f k z) (omega arith)))
       (λ l. rw (steps.payload-none f l) (omega arith))
 
   -- what its port decides
-  pub bits-commands : fhdrLength f + 6 < length f → fport f ≡ 0 → portBits f ≡ 16787456
+  pub bits-held : fhdrLength f + 6 ≤ length f → portBits f ≡ pick (eqb (fport f) 0) 16787456 (fport f * 65536 + 16783360)
   unfolding portBits
-  bits-commands h z = rw (steps.port-there f h, steps.payload-commands f h z) (omega arith)
-
-  pub bits-data : fhdrLength f + 6 < length f → (fport f ≡ 0 → ⊥) → portBits f ≡ fport f * 65536 + 16783360
-  unfolding portBits
-  bits-data h z = rw (steps.port-there f h, steps.payload-data f h z) (omega arith)
+  bits-held h =
+      by-equal (fport f) 0
+      (λ z. rw (steps.port-there f h, steps.payload-commands f h z, eq-eqb _ _ z) (omega arith))
+      (λ z. rw (steps.port-there f h, steps.payload-data f h z, ne-eqb _ _ z) (omega arith))
 
   pub bits-none : 5 + fhdrLength f ≤ length f → length f < fhdrLength f + 6 → portBits f ≡ 0
   unfolding portBits
-  bits-none l h =
-      let k : length f ≤ fhdrLength f + 6 = omega arith in
-      rw (steps.port-absent f k, steps.payload-none f h) (omega arith)
-
-  pub bits-empty : length f ≡ fhdrLength f + 6 → portBits f ≡ 16781312
-  unfolding portBits
-  bits-empty e =
-      let k : length f ≤ fhdrLength f + 6 = omega arith in
-      rw (steps.port-absent f k, steps.payload-empty f e) (omega arith)
+  bits-none l h = rw (steps.port-absent f h, steps.payload-none f h) (omega arith)
 
   -- its number
   data-sum : IsData f

@@ -17,38 +17,27 @@ use Rattle.frame.specs.declared.parser.Reading.the-variants.{JoinRequest
 module _ (f : List ℕ) where
   -- ---- the port
 
-  pub port-there : fhdrLength f + 6 < length f → portOf f ≡ Port (fport f)
+  pub port-there : fhdrLength f + 6 ≤ length f → portOf f ≡ Port (fport f)
   unfolding portOf
-  port-there h = simp (lt-ltb _ _ h)
+  port-there h = simp (le-leb _ _ h)
 
-  pub port-absent : length f ≤ fhdrLength f + 6 → portOf f ≡ Absent
+  pub port-absent : length f < fhdrLength f + 6 → portOf f ≡ Absent
   unfolding portOf
-  port-absent h = simp (le-ltb _ _ h)
+  port-absent h = simp (lt-leb _ _ h)
 
   -- ---- the payload
 
   pub payload-none : length f < fhdrLength f + 6 → payloadOf f ≡ Nothing
   unfolding payloadOf
-  payload-none h = simp (lt-ltb _ _ h)
+  payload-none h = rw (port-absent h)
 
-  pub payload-commands : fhdrLength f + 6 < length f → fport f ≡ 0 → payloadOf f ≡ MacCommands (payloadStart f) (payloadEnd f)
+  pub payload-commands : fhdrLength f + 6 ≤ length f → fport f ≡ 0 → payloadOf f ≡ MacCommands (payloadStart f) (payloadEnd f)
   unfolding payloadOf
-  payload-commands h z =
-      let k : fhdrLength f + 6 ≤ length f = omega arith in
-      simp (le-ltb _ _ k, lt-ltb _ _ h, eq-eqb _ _ z)
+  payload-commands h z = simp (port-there h, eq-eqb _ _ z)
 
-  pub payload-data : fhdrLength f + 6 < length f → (fport f ≡ 0 → ⊥) → payloadOf f ≡ PlainData (payloadStart f) (payloadEnd f)
+  pub payload-data : fhdrLength f + 6 ≤ length f → (fport f ≡ 0 → ⊥) → payloadOf f ≡ PlainData (payloadStart f) (payloadEnd f)
   unfolding payloadOf
-  payload-data h z =
-      let k : fhdrLength f + 6 ≤ length f = omega arith in
-      simp (le-ltb _ _ k, lt-ltb _ _ h, ne-eqb _ _ z)
-
-  pub payload-empty : length f ≡ fhdrLength f + 6 → payloadOf f ≡ PlainData (payloadStart f) (payloadEnd f)
-  unfolding payloadOf
-  payload-empty e =
-      let k : fhdrLength f + 6 ≤ length f = omega arith in
-      let l : length f ≤ fhdrLength f + 6 = omega arith in
-      simp (le-ltb _ _ k, le-ltb _ _ l)
+  payload-data h z = simp (port-there h, ne-eqb _ _ z)
 
   -- ---- by the type
 

@@ -4,7 +4,7 @@
 use mathlib.Core.Bool.{Bool}
 use mathlib.Core.List.{List}
 use Prim.Native.Nat.{ℕ, _+_, _-_, _*_, _/_, _%_, min}
-use lib.Dec.{leb, ltb}
+use lib.Dec.{leb}
 use lib.ListN.{length, take, drop}
 use Rattle.base.specs.Bytes.{at, part}
 
@@ -40,9 +40,9 @@ fcnt f = at f 6 + at f 7 * 256
 abbrev pub fitsHeader : List ℕ → Bool
 fitsHeader f = leb (5 + fhdrLength f) (length f)
 
--- 4.3.2 the port is reported where at least one payload byte follows it (docs/RULES.md, Reading, after the crate)
+-- 4.3.2 a port is there as soon as there is a byte between FHDR and MIC
 abbrev pub hasPort : List ℕ → Bool
-hasPort f = ltb (fhdrLength f + 6) (length f)
+hasPort f = leb (fhdrLength f + 6) (length f)
 
 abbrev pub fport : List ℕ → ℕ
 fport f = at f (1 + fhdrLength f)

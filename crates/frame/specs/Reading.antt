@@ -23,13 +23,14 @@ refuse x f = Refused (faultRefusal x f)
 unfoldable pub portOf : List ℕ → FPort
 portOf f = pick (hasPort f) (Port (fport f)) Absent
 
--- commands where the reported port is 0, data where it is not; nothing where there is no byte for a port
+-- 4.3.2, 4.3.3 what a port says of the bytes from start to end behind it, of which there may be none: commands on port 0, data
+-- on another; nothing without a port
+abbrev pub heldBy : FPort → ℕ → ℕ → FrmPayload
+heldBy Absent start end = Nothing
+heldBy (Port n) start end = pick (eqb n 0) (MacCommands start end) (PlainData start end)
+
 unfoldable pub payloadOf : List ℕ → FrmPayload
-payloadOf f =
-    pick (ltb (length f) (fhdrLength f + 6)) Nothing
-    (pick (hasPort f)
-    (pick (eqb (fport f) 0) (MacCommands (payloadStart f) (payloadEnd f)) (PlainData (payloadStart f) (payloadEnd f)))
-    (PlainData (payloadStart f) (payloadEnd f)))
+payloadOf f = heldBy (portOf f) (payloadStart f) (payloadEnd f)
 
 unfoldable pub dataOf : List ℕ → DataFrame
 dataOf f =

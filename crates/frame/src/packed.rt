@@ -1,7 +1,9 @@
 // A reading as one number of 64 bits. A data frame is read straight into it; what is none, `read` answers.
 ghost use mathlib.Core.Path.{_≡_};
 ghost use Prim.Native.Nat.{_+_, _*_, _/_, _%_, _≤_, _<_};
+ghost use lib.Dec.{eqb};
 ghost use lib.ListN.{length};
+ghost use Rattle.base.specs.Bytes.{pick};
 ghost use Rattle.frame.specs.Conditions.{IsData};
 ghost use Rattle.frame.specs.Layout.{fhdrLength};
 ghost use Rattle.frame.specs.Reading.{readOf};
@@ -14,6 +16,7 @@ use crate::packet_length::PHY_PAYLOAD_MAX_LEN;
 use crate::packet_length::PHY_PAYLOAD_MIN_LEN;
 use crate::parser::Reading;
 use crate::parser::fhdr_length;
+use crate::parser::has_port;
 use crate::parser::read;
 use crate::parser::read_fcnt;
 
@@ -39,9 +42,7 @@ const FCNT: u64 = 281474976710656;
 // So far a value above a number counts: 56 bits.
 const VALUES: u64 = 72057594037927936;
 
-// Where a port byte is there: nothing behind it, data, or commands. The payload begins a byte after FOpts.
-const EMPTY: u64 = PAYLOAD_KIND + PAYLOAD_AT;
-
+// Where a port is there: data or commands. The payload begins a byte after FOpts.
 const DATA: u64 = PORT_GIVEN + PAYLOAD_KIND + PAYLOAD_AT;
 
 const COMMANDS: u64 = PORT_GIVEN + 2 * PAYLOAD_KIND + PAYLOAD_AT;
@@ -93,25 +94,28 @@ fn wide(b: u8) -> u64
     b as u64
 }
 
-// Whether there is a port, the kind of the payload, the port, and how many bytes lie between FOpts and payload.
+// Of a port that is there: that it is, the kind of the payload, the port, and that one byte lies between FOpts and payload.
+fn held_bits(port: u8) -> u64
+    ensures { λ r. ⌜ r ≡ pick (eqb port 0) 16787456 (port * 65536 + 16783360) ⌝ }
+    ensures { λ r. ⌜ r < 67108864 ⌝ }
+{
+    if port == 0 {
+        return COMMANDS;
+    }
+    wide(port) * PORT + DATA
+}
+
+// The same of a frame, which may have no port.
 fn port_bits(frame: &[u8], h: usize) -> u64
     requires { ⌜ h ≡ fhdrLength (now frame) ⌝ }
     requires { ⌜ 5 + h ≤ length (now frame) ⌝ }
     ensures { λ r. ⌜ r ≡ portBits (now (frame .entry)) ⌝ }
     ensures { λ r. ⌜ r < 67108864 ⌝ }
 {
-    let n = frame.len();
-    if h + 6 < n {
-        let port = frame[1 + h];
-        if port == 0 {
-            return COMMANDS;
-        }
-        return wide(port) * PORT + DATA;
+    if has_port(frame, h) {
+        return held_bits(frame[1 + h]);
     }
-    if n < h + 6 {
-        return 0;
-    }
-    EMPTY
+    0
 }
 
 // FCtrl and FCnt at their bits.

@@ -2,8 +2,9 @@
 ghost use mathlib.Core.Path.{_≡_};
 ghost use Prim.Native.Nat.{_+_, _*_, _%_, _≤_};
 ghost use lib.ListN.{length};
+ghost use Rattle.frame.specs.Layout.{fhdrLength, hasPort};
 ghost use Rattle.frame.specs.Refusals.{refusal};
-ghost use Rattle.frame.specs.Reading.{portOf, payloadOf, readJoinRequest, readJoinAccept, readData, readType, readOf};
+ghost use Rattle.frame.specs.Reading.{portOf, heldBy, readJoinRequest, readJoinAccept, readData, readType, readOf};
 ghost use Rattle.frame.specs.declared.parser.Reading.the-variants.{Refused};
 use crate::fctrl::message_type;
 use crate::packet_length::FCNT_AT;
@@ -70,37 +71,39 @@ pub(crate) fn read_fcnt(low: u8, high: u8) -> u16
     (low as u16) + (high as u16) * 256
 }
 
-// The port, which is reported where a payload byte follows it (4.3.2).
-fn read_port(frame: &[u8]) -> FPort
-    requires { ⌜ 12 ≤ length (now frame) ⌝ }
+// Whether a port is there, behind an FHDR of h bytes (4.3.2).
+pub(crate) fn has_port(frame: &[u8], h: usize) -> bool
+    requires { ⌜ h ≡ fhdrLength (now frame) ⌝ }
+    ensures { λ r. ⌜ r ≡ hasPort (now (frame .entry)) ⌝ }
+{
+    h + 6 <= frame.len()
+}
+
+// The port, where it is there.
+fn read_port(frame: &[u8], h: usize) -> FPort
+    requires { ⌜ h ≡ fhdrLength (now frame) ⌝ }
+    requires { ⌜ 5 + h ≤ length (now frame) ⌝ }
     ensures { λ r. ⌜ r ≡ portOf (now (frame .entry)) ⌝ }
 {
-    let h = fhdr_length(frame[FCTRL_AT]);
-    if h + 6 < frame.len() {
+    if has_port(frame, h) {
         return FPort::Port(frame[1 + h]);
     }
     FPort::Absent
 }
 
-// The payload: commands where the reported port is 0 (4.3.3).
-fn read_payload(frame: &[u8]) -> FrmPayload
-    requires { ⌜ 12 ≤ length (now frame) ⌝ }
-    ensures { λ r. ⌜ r ≡ payloadOf (now (frame .entry)) ⌝ }
+// What a port says of the bytes behind it: commands on port 0, data on another (4.3.3).
+fn held_by(port: FPort, start: usize, end: usize) -> FrmPayload
+    ensures { λ r. ⌜ r ≡ heldBy port start end ⌝ }
 {
-    let h = fhdr_length(frame[FCTRL_AT]);
-    let n = frame.len();
-    if n < h + 6 {
-        return FrmPayload::Nothing;
-    }
-    let start = h + 2;
-    let end = n - MIC_LEN;
-    if h + 6 < n {
-        if frame[1 + h] == 0 {
-            return FrmPayload::MacCommands(start, end);
+    match port {
+        FPort::Absent => FrmPayload::Nothing,
+        FPort::Port(n) => {
+            if n == 0 {
+                return FrmPayload::MacCommands(start, end);
+            }
+            FrmPayload::Data(start, end)
         }
-        return FrmPayload::Data(start, end);
     }
-    FrmPayload::Data(start, end)
 }
 
 fn refused(number: u8, place: usize) -> Reading
@@ -140,8 +143,8 @@ fn read_data(frame: &[u8]) -> Reading
     if frame.len() < 5 + h {
         return refused(INVALID_DATA, FCTRL_AT);
     }
-    let port = read_port(frame);
-    let payload = read_payload(frame);
+    let port = read_port(frame, h);
+    let mic = frame.len() - MIC_LEN;
     let fcnt = read_fcnt(frame[FCNT_AT], frame[FCNT_AT + 1]);
     let data = DataFrame {
         mtype: message_type(frame[0]),
@@ -149,8 +152,8 @@ fn read_data(frame: &[u8]) -> Reading
         fcnt: fcnt,
         fopts_end: 1 + h,
         port: port,
-        payload: payload,
-        mic: frame.len() - MIC_LEN,
+        payload: held_by(port, h + 2, mic),
+        mic: mic,
     };
     Reading::Data(data)
 }

@@ -1,6 +1,7 @@
 -- The commands of a data frame: those of its FOpts, and those of a clear payload on port 0 (LoRaWAN 1.0.2, 4.3.1.6 and 5). A list
 -- that lies within a frame is read in the frame's bytes up to its end, so that its places are the frame's own.
 -- Assumes nothing.
+use mathlib.Core.Bool.{Bool, true, false}
 use mathlib.Core.List.{List}
 use Prim.Native.Nat.{ℕ}
 use lib.ListN.{take}
@@ -15,7 +16,13 @@ use Rattle.mac_commands.specs.declared.in_frame.CommandLists.{CommandLis
 use Rattle.mac_commands.specs.declared.in_frame.InFrame.{InFrame}
 use Rattle.mac_commands.specs.declared.in_frame.InFrame.the-variants.{Lists, Refused}
 
--- where the commands of a payload begin and end: none, and so at one place, where it holds no commands
+-- whether a payload is a list of commands, which may be empty
+abbrev pub onPort0 : FrmPayload → Bool
+onPort0 Nothing = false
+onPort0 (PlainData a b) = false
+onPort0 (MacCommands a b) = true
+
+-- where that list begins and ends: at the MIC where the payload is none
 abbrev pub commandsFrom : FrmPayload → ℕ → ℕ
 commandsFrom Nothing mic = mic
 commandsFrom (PlainData a b) mic = mic
@@ -26,17 +33,18 @@ commandsTo Nothing mic = mic
 commandsTo (PlainData a b) mic = mic
 commandsTo (MacCommands a b) mic = b
 
-abbrev pub listsBetween : DataFrame → ℕ → ℕ → CommandLists
-listsBetween d start end =
+abbrev pub listsBetween : DataFrame → Bool → ℕ → ℕ → CommandLists
+listsBetween d there start end =
     record {
       uplink = uplinkOf (d .mtype);
       «fopts_end» = d .«fopts_end»;
+      «on_port_0» = there;
       «payload_start» = start;
       «payload_end» = end;
     }
 
 unfoldable pub listsOf : DataFrame → CommandLists
-listsOf d = listsBetween d (commandsFrom (d .payload) (d .mic)) (commandsTo (d .payload) (d .mic))
+listsOf d = listsBetween d (onPort0 (d .payload)) (commandsFrom (d .payload) (d .mic)) (commandsTo (d .payload) (d .mic))
 
 -- of any bytes: the reader's refusal, and 4 of a join message
 unfoldable pub inFrame : List ℕ → InFrame

@@ -10,10 +10,12 @@ use frame::parser::read;
 use frame::refusals::Refusal;
 
 // The direction of a frame's commands, and the ends of its two lists: `read_step` on the bytes up to fopts_end gives those of
-// FOpts, from place 8 on; on the bytes up to payload_end, of a clear payload, those on port 0, from payload_start on.
+// FOpts, from place 8 on; on the bytes up to payload_end, of a clear payload, those on port 0, from payload_start on. A frame
+// with a list on port 0, which may be empty, has on_port_0.
 pub struct CommandLists {
     pub uplink: bool,
     pub fopts_end: usize,
+    pub on_port_0: bool,
     pub payload_start: usize,
     pub payload_end: usize,
 }
@@ -23,13 +25,14 @@ pub enum InFrame {
     Refused(Refusal),
 }
 
-// The lists of a frame whose payload holds commands between these places.
-fn lists_between(d: DataFrame, start: usize, end: usize) -> CommandLists
-    ensures { λ r. ⌜ r ≡ listsBetween d start end ⌝ }
+// The lists of a frame, the one on port 0 between these places.
+fn lists_between(d: DataFrame, on_port_0: bool, start: usize, end: usize) -> CommandLists
+    ensures { λ r. ⌜ r ≡ listsBetween d «on_port_0» start end ⌝ }
 {
     CommandLists {
         uplink: is_uplink(d.mtype),
         fopts_end: d.fopts_end,
+        on_port_0: on_port_0,
         payload_start: start,
         payload_end: end,
     }
@@ -41,9 +44,9 @@ fn lists_of(d: DataFrame) -> CommandLists
     let payload = d.payload;
     let mic = d.mic;
     match payload {
-        FrmPayload::Nothing => lists_between(d, mic, mic),
-        FrmPayload::Data(_, _) => lists_between(d, mic, mic),
-        FrmPayload::MacCommands(start, end) => lists_between(d, start, end),
+        FrmPayload::Nothing => lists_between(d, false, mic, mic),
+        FrmPayload::Data(_, _) => lists_between(d, false, mic, mic),
+        FrmPayload::MacCommands(start, end) => lists_between(d, true, start, end),
     }
 }
 

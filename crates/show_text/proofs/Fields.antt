@@ -6,10 +6,10 @@ use mathlib.Core.Path.{_≡_, refl, sym, ap, _∙_, subst}
 use mathlib.Core.List.{List, [], _∷_}
 use Prim.Native.Nat.{ℕ, _+_, _-_, _≤_, _<_}
 use native.Mathlib.Omega.{arith}
-use lib.Dec.{ltb, eqb}
+use lib.Dec.{eqb}
 use lib.ListN.{length, take, drop, length-drop}
 use lib.Seq.{take-all}
-use borrow.Author.Tests.{ltb-false}
+use borrow.Author.Tests.{leb-true}
 use Rattle.base.specs.Bytes.{part, AreBytes}
 use Rattle.base.proofs.Cases.{by-bool, by-order}
 use Rattle.base.proofs.Parts.{part-tab}
@@ -22,20 +22,19 @@ use Rattle.frame.proofs.ReadingSteps.{port-there, port-absent}
 use Rattle.show_text.specs.Text.{Spans}
 
 payload-spans : (f : List ℕ) → IsData f → Spans (payloadOf f)
-unfolding payloadOf
+unfolding payloadOf portOf
 payload-spans f h =
-    by-bool (ltb (length f) (fhdrLength f + 6)) (λ e. simp e tt)
-    (λ e.
-    let ends : fhdrLength f + 2 ≤ length f - 4 = omega (arith, ltb-false (length f) (fhdrLength f + 6) e) in
-    let small : length f - 4 < 100000 = omega (arith, h .most) in
     by-bool (hasPort f)
-    (λ p. by-bool (eqb (fport f) 0) (λ z. simp (e, p, z) (ends, small)) (λ z. simp (e, p, z) (ends, small)))
-    (λ p. simp (e, p) (ends, small)))
+    (λ e.
+    let ends : fhdrLength f + 2 ≤ length f - 4 = omega (arith, leb-true (fhdrLength f + 6) (length f) e) in
+    let small : length f - 4 < 100000 = omega (arith, h .most) in
+    by-bool (eqb (fport f) 0) (λ z. simp (e, z) (ends, small)) (λ z. simp (e, z) (ends, small)))
+    (λ e. simp e tt)
 
 port-below : (f : List ℕ) → AreBytes f → portNumber (portOf f) < 100000
 port-below f b =
-    by-order (length f) (fhdrLength f + 6) (λ h. rw (port-absent f h) (omega arith))
-    (λ h. rw (port-there f h) (omega (arith, b (1 + fhdrLength f))))
+    by-order (fhdrLength f + 6) (length f) (λ h. rw (port-there f h) (omega (arith, b (1 + fhdrLength f))))
+    (λ h. rw (port-absent f h) (omega arith))
 
 pub record Fields (f : List ℕ) (d : DataFrame) : Type 0 where
   pub type-small : d .mtype < 100000

@@ -3,6 +3,7 @@ pub mod BridgeRefusals
 pub mod BuildingRefusals
 pub mod CommandRefusals
 pub mod FirstDue
+pub mod KeyChoice
 pub mod NumberRefusals
 pub mod OpeningRefusals
 pub mod PlacedRefusals

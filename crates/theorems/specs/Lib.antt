@@ -5,6 +5,7 @@ pub mod ByReading
 pub mod CommandConditions
 pub mod CommandsInFrames
 pub mod Exactly
+pub mod KeyChoice
 pub mod NumberConditions
 pub mod OpeningConditions
 pub mod Places

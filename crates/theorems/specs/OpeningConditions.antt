@@ -4,16 +4,16 @@
 use mathlib.Core.Path.{_≡_}
 use mathlib.Core.Bool.{false}
 use mathlib.Core.List.{List, [], _∷_}
-use Prim.Native.Nat.{ℕ}
+use Prim.Native.Nat.{ℕ, _<_}
 use lib.Dec.{eqb}
+use lib.ListN.{length}
 use Rattle.base.specs.Bytes.{pick}
-use Rattle.frame.specs.Layout.{micOf}
+use Rattle.frame.specs.Layout.{payload, micOf}
 use Rattle.frame.specs.Reading.{portOf}
 use Rattle.frame.specs.Refusals.{refused}
 use Rattle.frame.specs.declared.refusals.Refusal.{Refusal}
 use Rattle.frame.specs.declared.keys.MaybeKey.{MaybeKey}
-use Rattle.frame.specs.declared.parser.FPort.{FPort}
-use Rattle.frame.specs.declared.parser.FPort.the-variants.{Absent, Port}
+use Rattle.frame.specs.declared.parser.FPort.the-variants.{Port}
 use Rattle.frame_security.specs.JoinAcceptCipher.{acceptDecrypted}
 use Rattle.frame_security.specs.Security.{covered, dataMic, joinMic}
 use Rattle.frame_opening.specs.FrameOpening.{givenKey}
@@ -37,21 +37,22 @@ pub record Tests (k : Needs) (f : List ℕ) (Right : Type 0) (t : MicTest) : Typ
   pub fails : Exactly (t ≡ Fails) (Is k f × (Right → ⊥))
   pub reading : (r : Refusal) → Exactly (t ≡ RefusedTest r) (ByReading k f r)
 
--- 6: the port selects a key that was not given: the network key where it is 0 or absent, the application key for every other
-pub data KeyMissing (port : FPort) (nwk app : MaybeKey) : Type 0 where
-  absent : port ≡ Absent → nwk .given ≡ false → KeyMissing port nwk app
-  zero : port ≡ Port 0 → nwk .given ≡ false → KeyMissing port nwk app
-  other : (p : ℕ) → port ≡ Port p → (p ≡ 0 → ⊥) → app .given ≡ false → KeyMissing port nwk app
+-- 6: the key of the payload was not given: the network key where the payload is empty or its port is 0, the application key of
+-- a payload on every other port
+pub data KeyMissing (f : List ℕ) (nwk app : MaybeKey) : Type 0 where
+  empty : length (payload f) ≡ 0 → nwk .given ≡ false → KeyMissing f nwk app
+  zero : portOf f ≡ Port 0 → nwk .given ≡ false → KeyMissing f nwk app
+  other : (p : ℕ) → portOf f ≡ Port p → (p ≡ 0 → ⊥) → 0 < length (payload f) → app .given ≡ false → KeyMissing f nwk app
 
 -- plain decryption of a data frame
 abbrev pub plainConditions : MaybeKey → MaybeKey → List ℕ → List Condition
-plainConditions nwk app f = 6 when KeyMissing (portOf f) nwk app ∷ []
+plainConditions nwk app f = 6 when KeyMissing f nwk app ∷ []
 
 -- checked decryption of a data frame, for which the network key is always given
 abbrev pub checkedConditions : List ℕ → MaybeKey → ℕ → List ℕ → List Condition
 checkedConditions nwk app counter f =
     5 unless RightDataMic nwk counter f
-    ∷ 6 when KeyMissing (portOf f) (givenKey nwk) app
+    ∷ 6 when KeyMissing f (givenKey nwk) app
     ∷ []
 
 -- checked opening of a join-accept

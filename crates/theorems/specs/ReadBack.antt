@@ -1,25 +1,21 @@
 -- What it means that a frame reads back which was built (docs/RULES.md, Building): what the other calls answer of it, said by what
 -- went in. FCtrl is compared by its high nibble, the counter by its low half, RxDelay modulo 16, a list of channels filled up
--- with zeros to five. The port of an empty payload is the one exception.
+-- with zeros to five.
 -- Assumes nothing.
 use mathlib.Core.Path.{_≡_}
 use mathlib.Core.Bool.{Bool}
 use mathlib.Core.List.{List, _++_}
-use Prim.Native.Nat.{ℕ, _+_, _-_, _/_, _%_, _<_}
-use lib.Dec.{eqb}
+use Prim.Native.Nat.{ℕ, _+_, _-_, _/_, _%_}
 use lib.ListN.{length, take}
 use Rattle.base.specs.Bytes.{pick, at, tab, part, zeros}
 use Rattle.frame.specs.JoinFields.{joinRequestFields, joinAcceptFields}
 use Rattle.frame.specs.Layout.{mtype, devAddr, fctrl, fcnt, fhdrLength, header, payload, payloadStart, payloadEnd, micOf}
-use Rattle.frame.specs.Reading.{portOf, payloadOf, dataOf, readOf}
+use Rattle.frame.specs.Reading.{portOf, heldBy, payloadOf, dataOf, readOf}
 use Rattle.frame.specs.Refusals.{notRefused}
 use Rattle.frame.specs.declared.join_fields.CfList.{CfList}
 use Rattle.frame.specs.declared.join_fields.CfList.the-variants.{Absent as NoList, Frequencies}
 use Rattle.frame.specs.declared.join_fields.JoinAcceptFields.{JoinAcceptFields}
 use Rattle.frame.specs.declared.join_fields.JoinRequestFields.{JoinRequestFields}
-use Rattle.frame.specs.declared.parser.FPort.the-variants.{Absent, Port}
-use Rattle.frame.specs.declared.parser.FrmPayload.{FrmPayload}
-use Rattle.frame.specs.declared.parser.FrmPayload.the-variants.{Nothing, Data as PlainData, MacCommands}
 use Rattle.frame.specs.declared.parser.Reading.the-variants.{JoinRequest, JoinAccept, Data}
 use Rattle.frame_security.specs.Security.{crypted, frameKey, dataMic, joinMic}
 use Rattle.frame_opening.specs.CheckedOpening.{dataOpenedChecked, acceptOpenedChecked}
@@ -54,20 +50,13 @@ pub record DataBack (nwk app : List ℕ) (d : DataParts) (commands body f : List
   -- FOpts lie from 8 on and end where reading says
   pub fopts-end : 1 + fhdrLength f ≡ 8 + length (foptsOf (d .port) commands)
   pub fopts : part 8 (length (foptsOf (d .port) commands)) f ≡ foptsOf (d .port) commands
-  -- the port, and the exception: with an empty payload none is reported, and the payload is data of no byte
-  pub port : (q : ℕ) → d .port ≡ Port q → 0 < length (bodyOf (d .port) commands body) → portOf f ≡ Port q
-  pub no-port : length (bodyOf (d .port) commands body) ≡ 0 → portOf f ≡ Absent
-  pub no-byte : (q : ℕ) → d .port ≡ Port q → length (bodyOf (d .port) commands body) ≡ 0
-      → payloadOf f ≡ PlainData (payloadStart f) (payloadStart f)
-  pub no-payload : d .port ≡ Absent → payloadOf f ≡ Nothing
+  -- the port, or none, as it was given, and what it says of the bytes behind it, also where there are none
+  pub port : portOf f ≡ d .port
+  pub held : payloadOf f ≡ heldBy (d .port) (payloadStart f) (payloadEnd f)
   -- header, clear payload or commands, MIC
   pub header-back : header f ≡ dataHeader d commands
   pub payload-back : crypted (frameKey f nwk app) (header f) (d .fcnt) (payload f) ≡ bodyOf (d .port) commands body
   pub mic-back : micOf f ≡ dataMic nwk (take (length f - 4) f) (d .fcnt)
-
--- what a port says of the payload behind it
-abbrev pub heldBy : ℕ → ℕ → ℕ → FrmPayload
-heldBy port start end = pick (eqb port 0) (MacCommands start end) (PlainData start end)
 
 -- its MIC passes, it opens to the clear payload or commands, plain and checked, and it opens for amendments
 pub record DataOpens (nwk app : List ℕ) (d : DataParts) (commands body f : List ℕ) : Type 0 where
@@ -77,9 +66,6 @@ pub record DataOpens (nwk app : List ℕ) (d : DataParts) (commands body f : Lis
   pub opens-checked : dataOpenedChecked nwk (givenKey app) (d .fcnt) f
       ≡ result Opened (dataHeader d commands ++ (bodyOf (d .port) commands body ++ micOf f))
   pub opens-to-amend : openOf f nwk app (d .fcnt) ≡ acceptedOpening (openedOf f nwk app (d .fcnt))
-  -- commands on port 0, data on another, where there is a byte
-  pub holds : (q : ℕ) → d .port ≡ Port q → 0 < length (bodyOf (d .port) commands body)
-      → payloadOf f ≡ heldBy q (payloadStart f) (payloadEnd f)
 
 pub record DataReadsBack (nwk app : List ℕ) (d : DataParts) (commands body f : List ℕ) : Type 0 where
   pub back : DataBack nwk app d commands body f

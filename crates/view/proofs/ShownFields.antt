@@ -6,23 +6,24 @@ use mathlib.Core.Bool.{Bool, true, false}
 use mathlib.Core.List.{List}
 use Prim.Native.Nat.{ℕ, _+_, _-_, _%_, _≤_, zero-le}
 use native.Mathlib.Omega.{arith}
-use lib.Dec.{ltb, eqb}
+use lib.Dec.{eqb}
 use lib.ListN.{length, drop, length-drop}
 use lib.Seq.{take-all}
-use borrow.Author.Tests.{lt-ltb, le-ltb}
+use borrow.Author.Tests.{lt-ltb, le-ltb, le-leb, lt-leb}
 use Rattle.base.specs.Bytes.{pick, at, part}
 use Rattle.base.proofs.Cases.{by-bool, by-order}
 use Rattle.frame.specs.Layout.{fhdrLength, hasPort, fport, headerEnd, payloadStart, payloadEnd}
-use Rattle.frame.specs.Reading.{portOf, payloadOf, dataOf, readOf}
+use Rattle.frame.specs.Reading.{portOf, heldBy, payloadOf, dataOf, readOf}
 use Rattle.frame.specs.ReadingNumbers.{portGiven, portNumber, payloadKind, payloadFrom, payloadTo, plainValues, dataValues, valuesOf}
 use Rattle.frame.specs.Conditions.{IsData}
+use Rattle.frame.specs.declared.parser.FPort.the-variants.{Absent, Port}
 use Rattle.frame.specs.declared.parser.FrmPayload.{FrmPayload}
 use Rattle.frame.specs.declared.parser.FrmPayload.the-variants.{Nothing, Data as PlainData, MacCommands}
 use Rattle.frame.specs.declared.parser.DataFrame.{DataFrame}
 use Rattle.frame.specs.declared.parser.Reading.{Reading}
 use Rattle.frame.specs.declared.parser.Reading.the-variants.{JoinRequest, JoinAccept, Data, Refused}
 use Rattle.frame.proofs.ReadingLaws.{Says, answers}
-use Rattle.view.specs.ViewNumbers.{noPayload, layoutValues}
+use Rattle.view.specs.ViewNumbers.{layoutValues}
 use Rattle.view.specs.Parts.{dataPlace, fieldPlace, pieceOf, shownOf}
 use Rattle.view.specs.FrameFields.{noField, dataField, joinField, fieldIn, fieldOf}
 use Rattle.view.specs.declared.parts.Field.{Field}
@@ -44,32 +45,29 @@ piece-nowhere f = piece-within f 0 0 zero-le zero-le
 
 -- ---- the port and the payload of a data frame
 
--- none where there is no byte for a port; its kind by the port, and one place for commands and for data
-chosen : {A : Type 0} (g : FrmPayload → A) (b c d : Bool) (s e : ℕ)
-    → g (pick b Nothing (pick c (pick d (MacCommands s e) (PlainData s e)) (PlainData s e)))
-    ≡ pick b (g Nothing) (pick c (pick d (g (MacCommands s e)) (g (PlainData s e))) (g (PlainData s e)))
-chosen g true c d s e = refl
-chosen g false true true s e = refl
-chosen g false true false s e = refl
-chosen g false false d s e = refl
+-- none without a port; its kind by the port, and one place for commands and for data
+chosen : {A : Type 0} (g : FrmPayload → A) (b : Bool) (p s e : ℕ)
+    → g (heldBy (pick b (Port p) Absent) s e)
+    ≡ pick b (pick (eqb p 0) (g (MacCommands s e)) (g (PlainData s e))) (g Nothing)
+chosen g true p s e = by-bool (eqb p 0) (λ t. rw t) (λ t. rw t)
+chosen g false p s e = refl
 
 -- a choice between one thing and itself
-same : {A : Type 0} (b c : Bool) (a : A) → pick b (pick c a a) a ≡ a
-same true true a = refl
-same true false a = refl
-same false c a = refl
+same : {A : Type 0} (b : Bool) (a : A) → pick b a a ≡ a
+same true a = refl
+same false a = refl
 
 module _ (f : List ℕ) where
   of-payload : {A : Type 0} (g : FrmPayload → A) → g (payloadOf f)
-      ≡ pick (noPayload f) (g Nothing) (pick (hasPort f) (pick (eqb (fport f) 0) (g (MacCommands (payloadStart f) (payloadEnd f))) (g (PlainData (payloadStart f) (payloadEnd f)))) (g (PlainData (payloadStart f) (payloadEnd f))))
-  unfolding payloadOf
-  of-payload g = chosen g (noPayload f) (hasPort f) (eqb (fport f) 0) (payloadStart f) (payloadEnd f)
+      ≡ pick (hasPort f) (pick (eqb (fport f) 0) (g (MacCommands (payloadStart f) (payloadEnd f))) (g (PlainData (payloadStart f) (payloadEnd f)))) (g Nothing)
+  unfolding payloadOf portOf
+  of-payload g = chosen g (hasPort f) (fport f) (payloadStart f) (payloadEnd f)
 
-  pub payload-start : payloadFrom (payloadOf f) ≡ pick (noPayload f) 0 (payloadStart f)
-  payload-start = of-payload payloadFrom ∙ ap (λ (n : ℕ). pick (noPayload f) 0 n) (same (hasPort f) (eqb (fport f) 0) (payloadStart f))
+  pub payload-start : payloadFrom (payloadOf f) ≡ pick (hasPort f) (payloadStart f) 0
+  payload-start = of-payload payloadFrom ∙ ap (λ (n : ℕ). pick (hasPort f) n 0) (same (eqb (fport f) 0) (payloadStart f))
 
-  pub payload-end : payloadTo (payloadOf f) ≡ pick (noPayload f) 0 (payloadEnd f)
-  payload-end = of-payload payloadTo ∙ ap (λ (n : ℕ). pick (noPayload f) 0 n) (same (hasPort f) (eqb (fport f) 0) (payloadEnd f))
+  pub payload-end : payloadTo (payloadOf f) ≡ pick (hasPort f) (payloadEnd f) 0
+  payload-end = of-payload payloadTo ∙ ap (λ (n : ℕ). pick (hasPort f) n 0) (same (eqb (fport f) 0) (payloadEnd f))
 
   pub port-is-given : portGiven (portOf f) ≡ hasPort f
   unfolding portOf
@@ -107,11 +105,11 @@ module _ (f : List ℕ) (h : IsData f) where
   payload-piece =
       by-order (fhdrLength f + 6) (length f)
       (λ k.
-      let there : ltb (length f) (fhdrLength f + 6) ≡ false = le-ltb (length f) (fhdrLength f + 6) k in
+      let there : hasPort f ≡ true = le-leb (fhdrLength f + 6) (length f) k in
       let first : headerEnd f ≡ payloadStart f = omega arith in
       rw (payload-start f, payload-end f, there, first) (piece-within f (payloadStart f) (payloadEnd f) (omega arith) (omega arith)))
       (λ k.
-      let none : ltb (length f) (fhdrLength f + 6) ≡ true = lt-ltb (length f) (fhdrLength f + 6) k in
+      let none : hasPort f ≡ false = lt-leb (fhdrLength f + 6) (length f) k in
       rw (payload-start f, payload-end f, none) (piece-nowhere f))
 
   data-field : (field : Field) → shownOf f (dataValues (dataOf f)) field ≡ dataField f field

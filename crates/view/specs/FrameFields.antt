@@ -5,11 +5,10 @@ use mathlib.Core.List.{List, []}
 use Prim.Native.Nat.{ℕ, _-_, _%_}
 use lib.ListN.{length}
 use Rattle.base.specs.Bytes.{pick, at, part}
-use Rattle.frame.specs.Layout.{devAddr, payloadStart, payload, micOf, appEuiAt, devEuiAt, devNonceAt, requestMicAt, appEui, devEui, devNonce}
+use Rattle.frame.specs.Layout.{devAddr, hasPort, payloadStart, payload, micOf, appEuiAt, devEuiAt, devNonceAt, requestMicAt, appEui, devEui, devNonce}
 use Rattle.frame.specs.Reading.{readOf}
 use Rattle.frame.specs.declared.parser.Reading.{Reading}
 use Rattle.frame.specs.declared.parser.Reading.the-variants.{JoinRequest, JoinAccept, Data, Refused}
-use Rattle.view.specs.ViewNumbers.{noPayload}
 use Rattle.view.specs.declared.parts.Field.{Field}
 use Rattle.view.specs.declared.parts.Field.the-variants.{DevAddr, FOpts, Payload, AppEui, DevEui, DevNonce, Mic}
 
@@ -21,11 +20,11 @@ fopts f = part 8 (at f 5 % 16) f
 abbrev pub noField : ℕ × List ℕ
 noField = (0, [])
 
--- of a data frame, where each begins with its bytes; one that reports no payload has none
+-- of a data frame, where each begins with its bytes; one without a port has no payload
 abbrev pub dataField : List ℕ → Field → ℕ × List ℕ
 dataField f DevAddr = (1, devAddr f)
 dataField f FOpts = (8, fopts f)
-dataField f Payload = pick (noPayload f) noField (payloadStart f, payload f)
+dataField f Payload = pick (hasPort f) (payloadStart f, payload f) noField
 dataField f AppEui = noField
 dataField f DevEui = noField
 dataField f DevNonce = noField

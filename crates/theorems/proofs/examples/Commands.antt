@@ -83,7 +83,7 @@ exampleFrame =
     0x40 ∷ 4 ∷ 3 ∷ 2 ∷ 1 ∷ 5 ∷ 5 ∷ 0 ∷ 0x03 ∷ 0x06 ∷ 0x06 ∷ 0xFF ∷ 0x39 ∷ 0 ∷ 0x07 ∷ 0x11 ∷ 0x22 ∷ 0x33 ∷ 0x44 ∷ []
 
 abbrev exampleLists : CommandLists
-exampleLists = record { uplink = true; «fopts_end» = 13; «payload_start» = 14; «payload_end» = 15 }
+exampleLists = record { uplink = true; «fopts_end» = 13; «on_port_0» = true; «payload_start» = 14; «payload_end» = 15 }
 
 pub frame-lists : inFrame exampleFrame ≡ Lists exampleLists
 unfolding inFrame listsOf readOf readType readData dataOf portOf payloadOf

@@ -1,4 +1,4 @@
--- The sixteen examples of docs/RULES.md, P1 to P16, for the definitions themselves: one statement over one list. Each row is
+-- The examples of docs/RULES.md, P1 to P17, for the definitions themselves: one statement over one list. Each row is
 -- computed.
 -- Assumes nothing.
 use mathlib.Core.Path.{_≡_, refl, ap}
@@ -103,7 +103,7 @@ rows =
     -- P5
     ∷ reads (controlled 7 64 1) (up 1 9 Absent Nothing 9)
     -- P6
-    ∷ reads (ported 4 64 0 0) (up 0 8 Absent (PlainData 9 9) 9)
+    ∷ reads (ported 4 64 0 0) (up 0 8 (Port 0) (MacCommands 9 9) 9)
     -- P7
     ∷ reads (ported 5 64 0 0) (up 0 8 (Port 0) (MacCommands 9 10) 10)
     -- P8
@@ -129,6 +129,8 @@ rows =
     -- P16
     ∷ builds 15 227 (Frame 255)
     ∷ builds 15 228 (NotBuilt (refused 12))
+    -- P17
+    ∷ reads (ported 4 64 0 5) (up 0 8 (Port 5) (PlainData 9 9) 9)
     ∷ []
 
 -- a built frame is as long as its parts say
@@ -159,7 +161,7 @@ table = (
                 λ a. refl,
                 (
                   λ a. refl,
-                  (λ a. refl, (λ a. refl, (λ a. refl, (λ a. refl, (λ a. refl, (λ a. refl, (λ a. refl, (refl, (λ o. long o (tab 0 (o .bytes)) (tab 242 (o .bytes)), (λ o. long o (tab 0 (o .bytes)) (tab 243 (o .bytes)), (λ o. long o (tab 15 (o .bytes)) (tab 227 (o .bytes)), (λ o. long o (tab 15 (o .bytes)) (tab 228 (o .bytes)), tt)))))))))))),
+                  (λ a. refl, (λ a. refl, (λ a. refl, (λ a. refl, (λ a. refl, (λ a. refl, (λ a. refl, (refl, (λ o. long o (tab 0 (o .bytes)) (tab 242 (o .bytes)), (λ o. long o (tab 0 (o .bytes)) (tab 243 (o .bytes)), (λ o. long o (tab 15 (o .bytes)) (tab 227 (o .bytes)), (λ o. long o (tab 15 (o .bytes)) (tab 228 (o .bytes)), (λ a. refl, tt))))))))))))),
                 ),
               ),
             ),

@@ -8,13 +8,13 @@ use Rattle.base.specs.Bytes.{zeros}
 use Rattle.frame.specs.Reading.{portOf, payloadOf, dataOf, readJoinRequest, readData, readType, readOf}
 use Rattle.show_text.specs.Text.{digitOf, hexOf, decimalIn, decimalOf, hexLine, numberLine, pairLine, portLine, placeLine, payloadLine, headerText, restText, dataText, refusalText, textOfReading, textOf, textOfInput}
 
--- 40 04030201 00 0500 00 AA 11223344
-abbrev exampleFrame : List ℕ
-exampleFrame = 64 ∷ 4 ∷ 3 ∷ 2 ∷ 1 ∷ 0 ∷ 5 ∷ 0 ∷ 0 ∷ 170 ∷ 17 ∷ 34 ∷ 51 ∷ 68 ∷ []
+-- 40 04030201 00 0500, what follows, 11223344
+abbrev frameWith : List ℕ → List ℕ
+frameWith middle = (64 ∷ 4 ∷ 3 ∷ 2 ∷ 1 ∷ 0 ∷ 5 ∷ 0 ∷ []) ++ middle ++ 17 ∷ 34 ∷ 51 ∷ 68 ∷ []
 
--- each line as it is printed, with its line end
-abbrev exampleText : List ℕ
-exampleText =
+-- its text: each line as it is printed, with its line end
+abbrev textWith : List ℕ → List ℕ
+textWith middle =
     -- type 2
     116 ∷ 121 ∷ 112 ∷ 101 ∷ 32 ∷ 50 ∷ 10 ∷
     -- addr 04030201
@@ -24,17 +24,26 @@ exampleText =
     -- fcnt 5
     102 ∷ 99 ∷ 110 ∷ 116 ∷ 32 ∷ 53 ∷ 10 ∷
     -- fopts 0
-    102 ∷ 111 ∷ 112 ∷ 116 ∷ 115 ∷ 32 ∷ 48 ∷ 10 ∷
-    -- port 0
-    112 ∷ 111 ∷ 114 ∷ 116 ∷ 32 ∷ 48 ∷ 10 ∷
-    -- payload 9 1
-    112 ∷ 97 ∷ 121 ∷ 108 ∷ 111 ∷ 97 ∷ 100 ∷ 32 ∷ 57 ∷ 32 ∷ 49 ∷ 10 ∷
+    (102 ∷ 111 ∷ 112 ∷ 116 ∷ 115 ∷ 32 ∷ 48 ∷ 10 ∷ []) ++
+    -- the lines between
+    middle ++
     -- mic 11223344
     109 ∷ 105 ∷ 99 ∷ 32 ∷ 49 ∷ 49 ∷ 50 ∷ 50 ∷ 51 ∷ 51 ∷ 52 ∷ 52 ∷ 10 ∷ []
 
-pub example : textOf exampleFrame ≡ exampleText
+-- "port " and a digit, "payload 9 " and a digit
+abbrev portLines : ℕ → ℕ → List ℕ
+portLines port count =
+    112 ∷ 111 ∷ 114 ∷ 116 ∷ 32 ∷ port ∷ 10 ∷ 112 ∷ 97 ∷ 121 ∷ 108 ∷ 111 ∷ 97 ∷ 100 ∷ 32 ∷ 57 ∷ 32 ∷ count ∷ 10 ∷ []
+
+-- port 0 with the byte AA: port 0, payload 9 1
+pub example : textOf (frameWith (0 ∷ 170 ∷ [])) ≡ textWith (portLines 48 49)
 unfolding textOf textOfReading dataText headerText restText payloadLine placeLine pairLine portLine numberLine hexLine decimalOf decimalIn hexOf digitOf readOf readType readData dataOf payloadOf portOf
 example = refl
+
+-- port 5 with nothing behind it: port 5, payload 9 0
+pub heartbeat : textOf (frameWith (5 ∷ [])) ≡ textWith (portLines 53 48)
+unfolding textOf textOfReading dataText headerText restText payloadLine placeLine pairLine portLine numberLine hexLine decimalOf decimalIn hexOf digitOf readOf readType readData dataOf payloadOf portOf
+heartbeat = refl
 
 -- ---- refusals, each with its place
 

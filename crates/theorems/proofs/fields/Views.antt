@@ -6,10 +6,10 @@ use mathlib.Core.List.{List}
 use Prim.Native.Nat.{ℕ, _+_, _-_}
 use native.Mathlib.Omega.{arith}
 use lib.ListN.{length}
-use borrow.Author.Tests.{ltb-true}
+use borrow.Author.Tests.{leb-false}
 use denote.Ref.{RefT, now}
 use Rattle.base.proofs.Cases.{by-bool}
-use Rattle.frame.specs.Layout.{headerEnd, payloadEnd, fhdrLength, devAddr, payload, micOf}
+use Rattle.frame.specs.Layout.{headerEnd, payloadEnd, fhdrLength, hasPort, devAddr, payload, micOf}
 use Rattle.frame.specs.Reading.{readOf}
 use Rattle.frame.specs.Conditions.{IsJoinRequest, IsJoinAccept, IsData}
 use Rattle.frame.specs.declared.parser.Reading.{Reading}
@@ -17,7 +17,7 @@ use Rattle.frame.specs.declared.refusals.Refusal.{Refusal}
 use Rattle.frame.specs.declared.parser.Reading.the-variants.{Refused}
 use Rattle.frame.proofs.ReadingLaws.{reads-request, reads-accept, reads-data}
 use Rattle.frame.specs.ReadingNumbers.{plainValues, valuesOf}
-use Rattle.view.specs.ViewNumbers.{noPayload, layoutValues}
+use Rattle.view.specs.ViewNumbers.{layoutValues}
 use Rattle.view.specs.Parts.{within}
 use Rattle.view.specs.FrameFields.{fopts, noField, dataField, joinField, fieldIn, fieldOf}
 use Rattle.view.specs.Viewed.{viewOf, partOf}
@@ -33,15 +33,14 @@ shown-field x field = ap (within x) (shows (now x) field)
 by-reading : (x : RefT (List ℕ)) {r : Reading} → readOf (now x) ≡ r → (field : Field) → partOf (viewOf x) field ≡ within x (fieldIn r (now x) field)
 by-reading x e field = shown-field x field ∙ ap (λ (r : Reading). within x (fieldIn r (now x) field)) e
 
--- where a data frame reports no payload, the layout's is empty
+-- where a data frame has no port, the layout's payload is empty
 pub payload-bytes : (f : List ℕ) → IsData f → dataField f Payload .1 ≡ payload f
 payload-bytes f h =
-    by-bool (noPayload f)
+    by-bool (hasPort f) (λ e. rw e)
     (λ e.
-    let short : length f ≡ fhdrLength f + 5 = omega (arith, ltb-true (length f) (fhdrLength f + 6) e, h .fits) in
+    let short : length f ≡ fhdrLength f + 5 = omega (arith, leb-false (fhdrLength f + 6) (length f) e, h .fits) in
     let empty : payloadEnd f - headerEnd f ≡ 0 = omega arith in
     rw (e, empty))
-    (λ e. rw e)
 
 -- ---- a data frame
 

@@ -1,30 +1,30 @@
 -- MAC commands that are built into a data frame, in FOpts or on port 0, are read from it as those commands, at their places: said
--- of every outcome that the builder's contract allows. A data frame without a payload on port 0 has no commands there.
+-- of every outcome that the builder's contract allows. A data frame that is not on port 0 has no list there.
 -- Assumes nothing.
 use mathlib.Core.Path.{_≡_, refl, sym, ap, ap₂, _∙_, subst}
 use mathlib.Core.Bool.{Bool, true, false}
 use mathlib.Core.List.{List, [], _∷_, _++_, append-assoc}
-use Prim.Native.Nat.{ℕ, _+_, _-_, _≤_, _<_}
+use Prim.Native.Nat.{ℕ, _+_, _-_, _≤_}
 use native.Mathlib.Omega.{arith}
 use denote.Ref.{now}
 use lib.ListN.{length, take, drop, length-append, length-take}
 use lib.Seq.{sets-eq, take-at, drop-at, take-add, take-take, length-take-le}
 use borrow.Author.Tests.{ne-eqb}
 use Rattle.base.specs.Bytes.{pick, part}
-use Rattle.base.proofs.Cases.{by-order, by-equal}
+use Rattle.base.proofs.Cases.{by-order}
 use Rattle.frame.specs.Conditions.{IsData}
 use Rattle.frame.specs.Fctrl.{uplinkOf}
-use Rattle.frame.specs.Layout.{mtype, fhdrLength, fport, headerEnd, header, payload, payloadStart, payloadEnd, micOf}
-use Rattle.frame.specs.Reading.{portOf, payloadOf, dataOf, readOf}
+use Rattle.frame.specs.Layout.{mtype, fhdrLength, headerEnd, header, payload, payloadStart, payloadEnd, micOf}
+use Rattle.frame.specs.Reading.{portOf, heldBy, payloadOf, dataOf, readOf}
 use Rattle.frame.specs.ReadingNumbers.{onData}
 use Rattle.frame.specs.declared.parser.FPort.{FPort}
-use Rattle.frame.specs.declared.parser.FPort.the-variants.{Port}
+use Rattle.frame.specs.declared.parser.FPort.the-variants.{Absent, Port}
 use Rattle.frame.specs.declared.parser.FrmPayload.{FrmPayload}
-use Rattle.frame.specs.declared.parser.FrmPayload.the-variants.{Nothing, Data as PlainData, MacCommands}
+use Rattle.frame.specs.declared.parser.FrmPayload.the-variants.{Data as PlainData, MacCommands}
 use Rattle.frame.proofs.LayoutLaws.{length-header, length-payload}
 use Rattle.frame.proofs.LayoutLaws as layout
 use Rattle.frame.proofs.ReadingLaws.{data-read}
-use Rattle.frame.proofs.ReadingSteps.{port-there, payload-none, payload-data, payload-empty}
+use Rattle.frame.proofs.ReadingSteps.{port-absent}
 use Rattle.frame_security.specs.Security.{frameKey}
 use Rattle.frame_security.proofs.SecurityLaws.{crypted-long}
 use Rattle.frame_opening.specs.FrameOpening.{Result, decrypted}
@@ -32,14 +32,12 @@ use Rattle.frame_build.specs.DataBuilding.{foptsOf, bodyOf, dataHeader}
 use Rattle.frame_build.specs.declared.creator.Built.the-variants.{Frame}
 use Rattle.frame_build.specs.declared.creator.data_frame.DataParts.{DataParts}
 use Rattle.frame_build.proofs.creator.data_frame.build_data.Reads as build-data
-use Rattle.mac_commands.specs.Commands.{bytesAs}
-use Rattle.mac_commands.specs.InFrame.{commandsFrom, commandsTo, listsOf, inFrame, foptsCommands, payloadCommands}
+use Rattle.mac_commands.specs.InFrame.{onPort0, commandsFrom, commandsTo, listsOf, inFrame, foptsCommands, payloadCommands}
 use Rattle.mac_commands.specs.Lists.{listAt, bytesAll, Sent, no-more, placed, Output, writeAll}
 use Rattle.mac_commands.specs.declared.in_frame.CommandLists.{CommandLists}
 use Rattle.mac_commands.specs.declared.in_frame.InFrame.the-variants.{Lists, Refused as NoLists}
 use Rattle.mac_commands.specs.declared.maccommands.Command.{Command}
 use Rattle.mac_commands.proofs.ListLaws.{list-empty, list-back, all-written}
-use Rattle.mac_commands.proofs.ReadBack.{bytes-count}
 use Rattle.theorems.specs.BuildingConditions.{NotPort0, absent, other}
 use Rattle.theorems.specs.CommandsInFrames.{listed, openedFrame, CommandsBack}
 use Rattle.theorems.specs.ReadBack.{Always, DataReadsBack}
@@ -59,59 +57,49 @@ stands up cs f a e m l z h =
     list-back up cs (take e f) a m
     (ap (λ (k : ℕ). drop a (take k f)) z ∙ drop-take a (length (bytesAll cs)) f l ∙ h)
 
--- commands without a byte are none
-no-byte-none : (cs : List Command) → length (bytesAll cs) ≡ 0 → cs ≡ []
-unfolding bytesAll
-no-byte-none [] e = refl
-no-byte-none (c ∷ cs) e =
-    let one = bytes-count c in
-    let all : length (bytesAs c ++ bytesAll cs) ≡ length (bytesAs c) + length (bytesAll cs) = length-append (bytesAs c) (bytesAll cs) in
-    absurd (omega arith)
+-- ---- a payload that is no list of commands
 
--- ---- a payload without commands
+-- its list begins and ends at the MIC
+pub record NoList (p : FrmPayload) (mic : ℕ) : Type 0 where
+  pub none : onPort0 p ≡ false
+  pub start : commandsFrom p mic ≡ mic
+  pub end : commandsTo p mic ≡ mic
 
-data NoCommands (p : FrmPayload) : Type 0 where
-  nothing : p ≡ Nothing → NoCommands p
-  plain : (a b : ℕ) → p ≡ PlainData a b → NoCommands p
-
--- the list of such a payload begins and ends at the MIC
-from-mic : (p : FrmPayload) (mic : ℕ) → NoCommands p → (commandsFrom p mic ≡ mic) × (commandsTo p mic ≡ mic)
-from-mic p mic (nothing e) = (ap (λ (q : FrmPayload). commandsFrom q mic) e, ap (λ (q : FrmPayload). commandsTo q mic) e)
-from-mic p mic (plain a b e) = (ap (λ (q : FrmPayload). commandsFrom q mic) e, ap (λ (q : FrmPayload). commandsTo q mic) e)
+no-list : (port : FPort) (s e mic : ℕ) → NotPort0 port → NoList (heldBy port s e) mic
+no-list port s e mic (absent q) =
+    subst (λ (t : FPort). NoList (heldBy t s e) mic) (sym q) (record { none = refl; start = refl; end = refl })
+no-list port s e mic (other p q n) =
+    subst (λ (t : FPort). NoList (heldBy t s e) mic) (sym q)
+    (subst (λ (b : Bool). NoList (pick b (MacCommands s e) (PlainData s e)) mic) (sym (ne-eqb p 0 n))
+    (record { none = refl; start = refl; end = refl }))
 
 -- of any bytes g, by the lists of the frame f
-empty-there : (f g : List ℕ) → NoCommands (payloadOf f)
-    → payloadCommands (listsOf (dataOf f)) g ≡ listed (listsOf (dataOf f) .«payload_start») []
-unfolding listsOf dataOf placed
-empty-there f g h =
-    let m = from-mic (payloadOf f) (length f - 4) h in
-    let e : commandsTo (payloadOf f) (length f - 4) ≡ commandsFrom (payloadOf f) (length f - 4) = m .1 ∙ sym (m .0) in
-    list-empty (uplinkOf (mtype f)) (take (commandsTo (payloadOf f) (length f - 4)) g) (commandsFrom (payloadOf f) (length f - 4))
-    (omega (arith, length-take (commandsTo (payloadOf f) (length f - 4)) g))
+module _ (f g : List ℕ) (not-0 : NotPort0 (portOf f)) where
+  without : NoList (payloadOf f) (length f - 4)
+  unfolding payloadOf
+  without = no-list (portOf f) (payloadStart f) (payloadEnd f) (length f - 4) not-0
 
--- a port that is reported and is not 0
-reported : (q : ℕ) → NotPort0 (Port q) → q ≡ 0 → ⊥
-reported q (absent e) z = let t : _≡_ {A = ℕ} 0 1 = cc in omega arith
-reported q (other p e n) z = n (cc)
+  not-there : listsOf (dataOf f) .«on_port_0» ≡ false
+  unfolding listsOf dataOf
+  not-there = without .none
 
-no-commands : (f : List ℕ) → NotPort0 (portOf f) → NoCommands (payloadOf f)
-no-commands f p =
-    by-order (length f) (fhdrLength f + 6)
-    (λ l.
-    by-equal (length f) (fhdrLength f + 6) (λ e. plain (payloadStart f) (payloadEnd f) (payload-empty f e))
-    (λ n. nothing (payload-none f (omega arith))))
-    (λ l.
-    plain (payloadStart f) (payloadEnd f)
-    (payload-data f l (reported (fport f) (subst (λ (q : FPort). NotPort0 q) (port-there f l) p))))
+  empty-there : payloadCommands (listsOf (dataOf f)) g ≡ listed (listsOf (dataOf f) .«payload_start») []
+  unfolding listsOf dataOf placed
+  empty-there =
+      let e : commandsTo (payloadOf f) (length f - 4) ≡ commandsFrom (payloadOf f) (length f - 4) = without .end ∙ sym (without .start) in
+      list-empty (uplinkOf (mtype f)) (take (commandsTo (payloadOf f) (length f - 4)) g) (commandsFrom (payloadOf f) (length f - 4))
+      (omega (arith, length-take (commandsTo (payloadOf f) (length f - 4)) g))
 
--- a frame without a payload on port 0 has the empty list there
+-- a frame that is not on port 0 has no list there
 pub no-port-0 : (f : List ℕ) (l : CommandLists) → inFrame f ≡ Lists l → NotPort0 (portOf f)
-    → payloadCommands l f ≡ listed (l .«payload_start») []
+    → (l .«on_port_0» ≡ false) × (payloadCommands l f ≡ listed (l .«payload_start») [])
 no-port-0 f l e p =
-    let its : l ≡ listsOf (dataOf f) = lists-found f l .there e .1 in
-    ap (λ (x : CommandLists). payloadCommands x f) its
-    ∙ empty-there f f (no-commands f p)
-    ∙ ap (λ (x : CommandLists). listed (x .«payload_start») []) (sym its)
+    let its : l ≡ listsOf (dataOf f) = lists-found f l .there e .1 in (
+      ap (λ (x : CommandLists). x .«on_port_0») its ∙ not-there f f p,
+      ap (λ (x : CommandLists). payloadCommands x f) its
+          ∙ empty-there f f p
+          ∙ ap (λ (x : CommandLists). listed (x .«payload_start») []) (sym its),
+    )
 
 -- ---- a frame that was built, with the bytes of the commands cs
 
@@ -127,6 +115,15 @@ to-fopts : (port : FPort) (commands : List ℕ) → NotPort0 port → foptsOf po
 to-fopts port commands (absent e) = ap (λ (p : FPort). foptsOf p commands) e
 to-fopts port commands (other q e n) =
     ap (λ (p : FPort). foptsOf p commands) e ∙ ap (λ (b : Bool). pick b [] commands) (ne-eqb q 0 n)
+
+-- a port that is reported has its byte
+port-byte : (f : List ℕ) (q : ℕ) → portOf f ≡ Port q → fhdrLength f + 6 ≤ length f
+port-byte f q e =
+    by-order (fhdrLength f + 6) (length f) (λ l. l)
+    (λ l.
+    let none : portOf f ≡ Absent = port-absent f l in
+    let z : _≡_ {A = ℕ} 0 1 = cc in
+    absurd (omega arith))
 
 -- a list between what stands before and after it
 between : (h b m : List ℕ) → part (length h) (length b) (h ++ (b ++ m)) ≡ b
@@ -193,19 +190,8 @@ module _ (nwk app : List ℕ) (d : DataParts) (cs : List Command) (body f : List
   -- ---- the payload
 
   -- none on another port
-  not-held : (q : ℕ) → (q ≡ 0 → ⊥) → d .port ≡ Port q → NoCommands (payloadOf f)
-  not-held q n e =
-      by-order (length (bodyOf (d .port) (bytesAll cs) body)) 0
-      (λ l. plain (payloadStart f) (payloadStart f) (b .back .no-byte q e (omega arith)))
-      (λ l.
-      plain (payloadStart f) (payloadEnd f)
-      (b .opens .holds q e l
-      ∙ ap (λ (t : Bool). pick t (MacCommands (payloadStart f) (payloadEnd f)) (PlainData (payloadStart f) (payloadEnd f)))
-      (ne-eqb q 0 n)))
-
-  none-held : NotPort0 (d .port) → NoCommands (payloadOf f)
-  none-held (absent e) = nothing (b .back .no-payload e)
-  none-held (other q e n) = not-held q n e
+  other-port : NotPort0 (d .port) → NotPort0 (portOf f)
+  other-port p = subst (λ (t : FPort). NotPort0 t) (sym (b .back .port)) p
 
   -- on port 0 those that were given
   module _ (zero : d .port ≡ Port 0) where
@@ -224,12 +210,21 @@ module _ (nwk app : List ℕ) (d : DataParts) (cs : List Command) (body f : List
     header-long : length (dataHeader d (bytesAll cs)) ≡ headerEnd f
     header-long = sym (ap length (b .back .header-back)) ∙ length-header f
 
-    -- where there is a byte of them
-    some-held : 0 < length (bytesAll cs) → payloadCommands its g ≡ listed (its .«payload_start») cs
+    on-0 : portOf f ≡ Port 0
+    on-0 = b .back .port ∙ zero
+
+    held : payloadOf f ≡ MacCommands (payloadStart f) (payloadEnd f)
+    unfolding payloadOf
+    held = ap (λ (t : FPort). heldBy t (payloadStart f) (payloadEnd f)) on-0
+
+    there : its .«on_port_0» ≡ true
     unfolding listsOf dataOf
-    some-held some =
-        let held : payloadOf f ≡ MacCommands (payloadStart f) (payloadEnd f) =
-        b .opens .holds 0 zero (subst (λ (l : List ℕ). 0 < length l) (sym as-body) some) in
+    there = ap onPort0 held
+
+    all-held : payloadCommands its g ≡ listed (its .«payload_start») cs
+    unfolding listsOf dataOf
+    all-held =
+        let byte : fhdrLength f + 6 ≤ length f = port-byte f 0 on-0 in
         let long : payloadEnd f - headerEnd f ≡ length (bytesAll cs) = sym (length-payload f) ∙ payload-long in
         let start : headerEnd f ≡ payloadStart f = omega arith in
         let end : payloadEnd f ≡ payloadStart f + length (bytesAll cs) = omega arith in
@@ -245,15 +240,6 @@ module _ (nwk app : List ℕ) (d : DataParts) (cs : List Command) (body f : List
         ∙ stands (d .uplink) cs g (payloadStart f) (payloadEnd f) sent (omega (arith, header-long)) end there
         ∙ ap (λ (p : FrmPayload). listed (commandsFrom p (length f - 4)) cs) (sym held)
 
-    all-held : payloadCommands its g ≡ listed (its .«payload_start») cs
-    all-held =
-        by-order (length (bytesAll cs)) 0
-        (λ l.
-        let none : length (bytesAll cs) ≡ 0 = omega arith in
-        empty-there f g (plain (payloadStart f) (payloadStart f) (b .back .no-byte 0 zero (ap length as-body ∙ none)))
-        ∙ ap (listed (its .«payload_start»)) (sym (no-byte-none cs none)))
-        some-held
-
   commands-back : CommandsBack nwk app d cs f
   unfolding g
   commands-back =
@@ -264,7 +250,8 @@ module _ (nwk app : List ℕ) (d : DataParts) (cs : List Command) (body f : List
               lists = its;
               found = f-found;
               fopts = fopts-hold cs sent (to-fopts (d .port) (bytesAll cs) p);
-              payload = empty-there f f (none-held p);
+              port-0 = not-there f f (other-port p);
+              payload = empty-there f f (other-port p);
             };
         in-fopts-opened =
             λ p.
@@ -272,7 +259,8 @@ module _ (nwk app : List ℕ) (d : DataParts) (cs : List Command) (body f : List
               lists = its;
               found = g-found;
               fopts = opened-fopts ∙ fopts-hold cs sent (to-fopts (d .port) (bytesAll cs) p);
-              payload = empty-there f g (none-held p);
+              port-0 = not-there f g (other-port p);
+              payload = empty-there f g (other-port p);
             };
         on-port-0 =
             λ z.
@@ -280,6 +268,7 @@ module _ (nwk app : List ℕ) (d : DataParts) (cs : List Command) (body f : List
               lists = its;
               found = g-found;
               fopts = opened-fopts ∙ fopts-hold [] no-more (no-fopts z);
+              port-0 = there z;
               payload = all-held z;
             };
       }

@@ -1,7 +1,6 @@
 -- Reading back a data frame that was built: it is read as a data frame of its type, with the fields that were given, FCtrl by
 -- its high nibble and the counter by its low half; its MIC is right; decrypting its payload gives the clear payload or
--- commands. A port with an empty payload is read as absent. All of it holds since the frame's first eight bytes are
--- written out and the lengths of its parts are known.
+-- commands. All of it holds since the frame's first eight bytes are written out and the lengths of its parts are known.
 -- Assumes nothing.
 use mathlib.Core.Path.{_≡_, refl, sym, ap, ap₂, _∙_}
 use mathlib.Core.Bool.{Bool, true, false}
@@ -14,7 +13,7 @@ use lib.Seq.{take-at, drop-at, getD-append-add, getD-append-seam}
 use Rattle.base.specs.Bytes.{pick, at, part}
 use Rattle.base.proofs.Tab.{tab-at}
 use Rattle.frame.specs.Layout.{mtype, major, devAddr, fctrl, fcnt, fhdrLength, fport, headerEnd, header, payload, payloadStart, payloadEnd, micOf}
-use Rattle.frame.specs.Reading.{portOf, payloadOf, dataOf, readOf}
+use Rattle.frame.specs.Reading.{portOf, heldBy, payloadOf, dataOf, readOf}
 use Rattle.frame.specs.Conditions.{IsData}
 use Rattle.frame_build.specs.DataBuilding.{isAbsent, mhdrOf, portBytes, foptsOf, bodyOf, dataHeader, dataRefusal}
 use Rattle.frame_build.specs.DataFrames.{dataFrame}
@@ -23,14 +22,13 @@ use Rattle.frame_security.specs.Sealing.{enciphered, sealed}
 use Rattle.frame_security.specs.Security.{crypted, payloadKey, frameKey, dataMic}
 use Rattle.frame.specs.declared.parser.FPort.{FPort}
 use Rattle.frame.specs.declared.parser.FPort.the-variants.{Absent, Port}
-use Rattle.frame.specs.declared.parser.FrmPayload.the-variants.{Nothing, Data as PlainData}
 use Rattle.frame.specs.declared.parser.Reading.the-variants.{Data}
 use Rattle.frame_build.specs.declared.creator.data_frame.DataParts.{DataParts}
 use Rattle.theorems.specs.ReadBack.{DataBack}
 use Rattle.frame_build.proofs.DataRefusals.{Buildable, accepted}
 use Rattle.frame_build.proofs.DataHeader.{eight, header-eight, length-header}
 use Rattle.frame.proofs.ReadingLaws.{reads-data}
-use Rattle.frame.proofs.ReadingSteps.{port-there, port-absent, payload-none, payload-empty}
+use Rattle.frame.proofs.ReadingSteps.{port-there, port-absent}
 use Rattle.frame_security.proofs.SealingLaws.{sealed-long, sealed-parts, enciphered-long}
 use Rattle.frame_security.proofs.SecurityLaws.{crypted-long, crypted-twice}
 
@@ -218,10 +216,9 @@ module _ (nwk app : List ℕ) (d : DataParts) (four : length (d .«dev_addr») �
 
   -- ---- the port
 
-  -- the port is reported as it was given, where a byte of payload follows it
-  pub back-port : (q : ℕ) → d .port ≡ Port q → 0 < length (bodyOf (d .port) commands body) → portOf f ≡ Port q
+  back-port-byte : (q : ℕ) → d .port ≡ Port q → portOf f ≡ Port q
   unfolding n p
-  back-port q e some =
+  back-port-byte q e =
       let one : length (portBytes (d .port)) ≡ 1 = ap (λ (t : FPort). length (portBytes t)) e in
       let i : 1 + fhdrLength f ≡ 8 + n = omega (arith, fhdr) in
       let v : fport f ≡ q =
@@ -234,29 +231,25 @@ module _ (nwk app : List ℕ) (d : DataParts) (four : length (d .«dev_addr») �
       ∙ getD-append-seam (foptsOf (d .port) commands) q (c ++ m) 0 in
       port-there f (omega (arith, f-long, h-long, fhdr)) ∙ ap Port v
 
-  -- the exception: with an empty payload no port is reported, whichever was given
-  pub back-empty : length (bodyOf (d .port) commands body) ≡ 0 → portOf f ≡ Absent
-  unfolding p
-  back-empty none =
-      ⊎-elim (λ one. port-absent f (omega (arith, f-long, h-long, fhdr)))
-      (λ z. port-absent f (omega (arith, f-long, h-long, fhdr, z .0))) (port-or-none (d .port) commands body (ok .without))
-
-  -- and its payload is read as data of no byte; without a port there is no payload
-  pub back-empty-port : (q : ℕ) → d .port ≡ Port q → length (bodyOf (d .port) commands body) ≡ 0
-      → payloadOf f ≡ PlainData (payloadStart f) (payloadStart f)
-  unfolding p
-  back-empty-port q e none =
-      let one : length (portBytes (d .port)) ≡ 1 = ap (λ (t : FPort). length (portBytes t)) e in
-      let z : payloadEnd f ≡ payloadStart f = omega (arith, f-long, h-long, fhdr) in
-      payload-empty f (omega (arith, f-long, h-long, fhdr)) ∙ ap (PlainData (payloadStart f)) z
-
-  pub back-no-port : d .port ≡ Absent → payloadOf f ≡ Nothing
+  back-no-port : d .port ≡ Absent → portOf f ≡ Absent
   unfolding p
   back-no-port e =
       let zero : length (portBytes (d .port)) ≡ 0 = ap (λ (t : FPort). length (portBytes t)) e in
       let none : length body ≡ 0 = ok .without (ap isAbsent e) in
       let same : length (bodyOf (d .port) commands body) ≡ length body = ap (λ (t : FPort). length (bodyOf t commands body)) e in
-      payload-none f (omega (arith, f-long, h-long, fhdr))
+      port-absent f (omega (arith, f-long, h-long, fhdr))
+
+  by-port : (t : FPort) → d .port ≡ t → portOf f ≡ t
+  by-port Absent e = back-no-port e
+  by-port (Port q) e = back-port-byte q e
+
+  -- it is reported as it was given, whatever stands behind it
+  pub back-port : portOf f ≡ d .port
+  back-port = by-port (d .port) refl
+
+  pub back-held : payloadOf f ≡ heldBy (d .port) (payloadStart f) (payloadEnd f)
+  unfolding payloadOf
+  back-held = ap (λ (t : FPort). heldBy t (payloadStart f) (payloadEnd f)) back-port
 
 -- ---- the theorem
 
@@ -274,9 +267,7 @@ data-back nwk app d g commands body room e =
       fopts-end = back-fopts-end nwk app d four commands body room ok;
       fopts = back-fopts nwk app d four commands body room ok;
       port = back-port nwk app d four commands body room ok;
-      no-port = back-empty nwk app d four commands body room ok;
-      no-byte = back-empty-port nwk app d four commands body room ok;
-      no-payload = back-no-port nwk app d four commands body room ok;
+      held = back-held nwk app d four commands body room ok;
       header-back = back-header nwk app d four commands body room ok;
       payload-back = back-payload nwk app d four commands body room ok;
       mic-back = back-mic nwk app d four commands body room ok;

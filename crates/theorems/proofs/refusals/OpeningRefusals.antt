@@ -9,27 +9,25 @@ use Prim.Native.Nat.{ℕ, _+_, _%_, _≤_, _<_}
 use native.Mathlib.Omega.{arith}
 use lib.Dec.{eqb}
 use lib.ListN.{length}
-use lib.Seq.{getD-take}
 use borrow.Author.Tests.{eqb-true, eqb-false, eq-eqb, ne-eqb}
 use Rattle.base.specs.Bytes.{pick, at}
 use Rattle.base.proofs.Cases.{by-bool, by-order}
 use Rattle.frame.specs.Conditions.{IsJoinAccept, IsData}
 use Rattle.frame.specs.JoinFields.{requestFields, noRequest, joinRequestFields, acceptFields, noAccept, joinAcceptFields}
-use Rattle.frame.specs.Layout.{fhdrLength, fport, headerEnd, header, payload, micOf}
+use Rattle.frame.specs.Layout.{fport, payload, micOf}
 use Rattle.frame.specs.Reading.{readOf, portOf}
 use Rattle.frame.specs.Refusals.{refused, notRefused}
 use Rattle.frame.specs.declared.refusals.Refusal.{Refusal}
 use Rattle.frame.specs.declared.join_fields.JoinAcceptFields.{JoinAcceptFields}
 use Rattle.frame.specs.declared.join_fields.JoinRequestFields.{JoinRequestFields}
 use Rattle.frame.specs.declared.keys.MaybeKey.{MaybeKey}
-use Rattle.frame.specs.declared.parser.FPort.the-variants.{Absent, Port}
-use Rattle.frame.proofs.LayoutLaws.{placed, length-payload}
-use Rattle.frame.proofs.ReadingSteps.{port-there, port-absent}
+use Rattle.frame.specs.declared.parser.FPort.the-variants.{Port}
+use Rattle.frame.proofs.LayoutLaws.{length-payload}
+use Rattle.frame.proofs.ReadingSteps.{port-there}
 use Rattle.frame_security.specs.JoinAcceptCipher.{acceptDecrypted}
 use Rattle.frame_security.specs.Mic.{sameBytes}
-use Rattle.frame_security.specs.Security.{byNetworkKey, frameKey, covered, dataMic, joinMic}
+use Rattle.frame_security.specs.Security.{frameKey, covered, dataMic, joinMic}
 use Rattle.frame_security.proofs.MicCompared.{same-of-test, test-of-same}
-use Rattle.frame_security.proofs.SecurityLaws.{by-port}
 use Rattle.frame_opening.specs.FrameOpening.{joinPasses, dataPasses, answered, joinRequestTest, joinAcceptTest, dataTest, Result, unopened, result, decrypted, openedUnder, dataOpened, givenKey, openingRefusal}
 use Rattle.frame_opening.specs.JoinAcceptOpening.{acceptOpened}
 use Rattle.frame_opening.specs.SessionKeys.{derivedKeys, noKeys, sessionKeys}
@@ -41,7 +39,8 @@ use Rattle.frame_opening.specs.declared.payload.Opening.{Opening}
 use Rattle.frame_opening.specs.declared.payload.Opening.the-variants.{Opened, Refused}
 use Rattle.theorems.specs.Exactly.{Exactly, Condition}
 use Rattle.theorems.specs.ByReading.{Needs, join-request, join-accept, data-frame, Is, ByReading, AfterReading}
-use Rattle.theorems.specs.OpeningConditions.{RightDataMic, RightJoinMic, Tests, KeyMissing, absent, zero, other, plainConditions, checkedConditions, checkedAcceptConditions, openingOf}
+use Rattle.theorems.specs.OpeningConditions.{RightDataMic, RightJoinMic, Tests, KeyMissing, empty, zero, other, plainConditions, checkedConditions, checkedAcceptConditions, openingOf}
+use Rattle.theorems.proofs.refusals.KeyChoice.{by-empty, by-its-port}
 use Rattle.theorems.proofs.refusals.FirstDue.{apart, if-when, if-unless, if-not, with-none, Gives, no-more, passed, nothing-left, says-told, through}
 use Rattle.theorems.proofs.refusals.ReadFirst.{on, on-through, either-way, needed, handed-on, after-reading, refusal-after}
 
@@ -51,62 +50,42 @@ use Rattle.theorems.proofs.refusals.ReadFirst.{on, on-through, either-w
 if-right : (s t : List ℕ) → Exactly (sameBytes s t ≡ true) (s ≡ t)
 if-right s t = record { there = same-of-test s t; back = test-of-same s t }
 
--- the port in the header of a frame that has a payload
-module _ (f : List ℕ) (h : IsData f) where
-  header-port : fhdrLength f + 6 < length f → fport (header f) ≡ fport f
-  header-port l =
-      let p = placed f h in
-      let five : at (header f) 5 ≡ at f 5 = getD-take (headerEnd f) f 5 0 (omega (arith, p .fopts)) in
-      ap (λ (b : ℕ). at (header f) (1 + (7 + b % 16))) five
-      ∙ getD-take (headerEnd f) f (1 + fhdrLength f) 0 (omega arith)
-
-  -- the payload's key, by the port that the reader reports
-  by-absent : length f ≤ fhdrLength f + 6 → (nwk app : MaybeKey) → frameKey f nwk app ≡ nwk
-  unfolding byNetworkKey
-  by-absent l nwk app =
-      let none : length (payload f) ≡ 0 = omega (arith, length-payload f) in
-      ap (λ (b : Bool). pick (pick b true (eqb (fport (header f)) 0)) nwk app) (eq-eqb (length (payload f)) 0 none)
-
-  by-its-port : fhdrLength f + 6 < length f → (nwk app : MaybeKey) → frameKey f nwk app ≡ pick (eqb (fport f) 0) nwk app
-  by-its-port l nwk app =
-      let some : 0 < length (payload f) = omega (arith, length-payload f) in
-      ap (λ (b : Bool). pick b nwk app)
-      (by-port (header f) (length (payload f)) some ∙ ap (λ (q : ℕ). eqb q 0) (header-port l))
-
-  -- without a port it is the network key that is missing
-  missing-absent : (nwk app : MaybeKey) → portOf f ≡ Absent → KeyMissing (portOf f) nwk app → nwk .given ≡ false
-  missing-absent nwk app e (absent q m) = m
-  missing-absent nwk app e (zero q m) = m
-  missing-absent nwk app e (other p q n m) = absurd (n (cc))
+-- the key of the payload
+module _ (f : List ℕ) (h : IsData f) (nwk app : MaybeKey) where
+  -- without a byte of payload it is the network key that is missing
+  missing-empty : length (payload f) ≡ 0 → KeyMissing f nwk app → nwk .given ≡ false
+  missing-empty none (empty q m) = m
+  missing-empty none (zero q m) = m
+  missing-empty none (other p q n some m) = absurd (omega arith)
 
   -- with one it is the key that the port selects
-  missing-port : (nwk app : MaybeKey) → portOf f ≡ Port (fport f) → KeyMissing (portOf f) nwk app
+  missing-port : portOf f ≡ Port (fport f) → 0 < length (payload f) → KeyMissing f nwk app
       → pick (eqb (fport f) 0) nwk app .given ≡ false
-  missing-port nwk app e (absent q m) = cc
-  missing-port nwk app e (zero q m) =
+  missing-port e some (empty none m) = absurd (omega arith)
+  missing-port e some (zero q m) =
       ap (λ (b : Bool). pick b nwk app .given) (eq-eqb (fport f) 0 (cc)) ∙ m
-  missing-port nwk app e (other p q n m) =
+  missing-port e some (other p q n l m) =
       ap (λ (b : Bool). pick b nwk app .given) (ne-eqb (fport f) 0 (λ z. n (cc))) ∙ m
 
-  port-missing : (nwk app : MaybeKey) → portOf f ≡ Port (fport f) → pick (eqb (fport f) 0) nwk app .given ≡ false
-      → KeyMissing (portOf f) nwk app
-  port-missing nwk app e m =
+  port-missing : portOf f ≡ Port (fport f) → 0 < length (payload f) → pick (eqb (fport f) 0) nwk app .given ≡ false
+      → KeyMissing f nwk app
+  port-missing e some m =
       by-bool (eqb (fport f) 0)
       (λ t. zero (e ∙ ap Port (eqb-true (fport f) 0 t)) (sym (ap (λ (b : Bool). pick b nwk app .given) t) ∙ m))
-      (λ t. other (fport f) e (eqb-false (fport f) 0 t) (sym (ap (λ (b : Bool). pick b nwk app .given) t) ∙ m))
+      (λ t. other (fport f) e (eqb-false (fport f) 0 t) some (sym (ap (λ (b : Bool). pick b nwk app .given) t) ∙ m))
 
   -- and so the test of the key tells whether it is missing
-  if-missing : (nwk app : MaybeKey) → Exactly (frameKey f nwk app .given ≡ false) (KeyMissing (portOf f) nwk app)
-  if-missing nwk app =
-      by-order (length f) (fhdrLength f + 6)
+  if-missing : Exactly (frameKey f nwk app .given ≡ false) (KeyMissing f nwk app)
+  if-missing =
+      by-order (length (payload f)) 0
       (λ l.
-      let none = port-absent f l in
-      let key = ap (λ (k : MaybeKey). k .given) (by-absent l nwk app) in
-      record { there = λ m. absent none (sym key ∙ m); back = λ m. key ∙ missing-absent nwk app none m })
+      let none : length (payload f) ≡ 0 = omega arith in
+      let key = ap (λ (k : MaybeKey). k .given) (by-empty f h none nwk app) in
+      record { there = λ m. empty none (sym key ∙ m); back = λ m. key ∙ missing-empty none m })
       (λ l.
-      let one = port-there f l in
-      let key = ap (λ (k : MaybeKey). k .given) (by-its-port l nwk app) in
-      record { there = λ m. port-missing nwk app one (sym key ∙ m); back = λ m. key ∙ missing-port nwk app one m })
+      let one = port-there f (omega (arith, length-payload f)) in
+      let key = ap (λ (k : MaybeKey). k .given) (by-its-port f h l nwk app) in
+      record { there = λ m. port-missing one l (sym key ∙ m); back = λ m. key ∙ missing-port one l m })
 
 -- ---- openings
 
@@ -179,10 +158,10 @@ checked-accept key f = opens-after join-accept f (acceptTested key f) (λ h. acc
 -- ---- the numbers 5 and 6 of them and what is opened, written out
 
 module _ (nwk app : MaybeKey) (counter : ℕ) (f : List ℕ) where
-  pub data-6 : Exactly (dataOpened nwk app counter f .answer ≡ Refused (refused 6)) (IsData f × KeyMissing (portOf f) nwk app)
+  pub data-6 : Exactly (dataOpened nwk app counter f .answer ≡ Refused (refused 6)) (IsData f × KeyMissing f nwk app)
   data-6 = data-opening nwk app counter f .own 6 tt
 
-  pub data-opened : Exactly (dataOpened nwk app counter f .answer ≡ Opened) (IsData f × (KeyMissing (portOf f) nwk app → ⊥))
+  pub data-opened : Exactly (dataOpened nwk app counter f .answer ≡ Opened) (IsData f × (KeyMissing f nwk app → ⊥))
   data-opened = with-none (plainConditions nwk app f) tt (data-opening nwk app counter f .own 0 tt)
 
 module _ (nwk : List ℕ) (app : MaybeKey) (counter : ℕ) (f : List ℕ) where
@@ -190,11 +169,11 @@ module _ (nwk : List ℕ) (app : MaybeKey) (counter : ℕ) (f : List ℕ) where
   checked-5 = checked-opening nwk app counter f .own 5 tt
 
   pub checked-6 : Exactly (dataOpenedChecked nwk app counter f .answer ≡ Refused (refused 6))
-      (IsData f × (RightDataMic nwk counter f × KeyMissing (portOf f) (givenKey nwk) app))
+      (IsData f × (RightDataMic nwk counter f × KeyMissing f (givenKey nwk) app))
   checked-6 = checked-opening nwk app counter f .own 6 tt
 
   pub checked-opened : Exactly (dataOpenedChecked nwk app counter f .answer ≡ Opened)
-      (IsData f × (RightDataMic nwk counter f × (KeyMissing (portOf f) (givenKey nwk) app → ⊥)))
+      (IsData f × (RightDataMic nwk counter f × (KeyMissing f (givenKey nwk) app → ⊥)))
   checked-opened = with-none (checkedConditions nwk app counter f) tt (checked-opening nwk app counter f .own 0 tt)
 
 module _ (key f : List ℕ) where

@@ -4,14 +4,14 @@ use mathlib.Core.Path.{_≡_, sym, ap, _∙_}
 use borrow.Author.Needs.{needs}
 use Rattle.frame.specs.declared.parser.DataFrame.{DataFrame}
 use Rattle.frame.specs.declared.parser.FrmPayload.{FrmPayload}
-use Rattle.mac_commands.specs.InFrame.{commandsFrom, commandsTo, listsBetween, listsOf}
+use Rattle.mac_commands.specs.InFrame.{onPort0, commandsFrom, commandsTo, listsBetween, listsOf}
 use Rattle.mac_commands.proofs.in_frame.lists_of.Statement.{statement}
 use Rattle.mac_commands.proofs.in_frame.lists_of.Tie as tie
 
 by : (d : DataFrame) {p : FrmPayload} → d .payload ≡ p
-    → listsBetween d (commandsFrom p (d .mic)) (commandsTo p (d .mic)) ≡ listsOf d
+    → listsBetween d (onPort0 p) (commandsFrom p (d .mic)) (commandsTo p (d .mic)) ≡ listsOf d
 unfolding listsOf
-by d e = sym (ap (λ (p : FrmPayload). listsBetween d (commandsFrom p (d .mic)) (commandsTo p (d .mic))) e)
+by d e = sym (ap (λ (p : FrmPayload). listsBetween d (onPort0 p) (commandsFrom p (d .mic)) (commandsTo p (d .mic))) e)
 
 returns : tie.Need-returns
 returns c = c .lists-between .ensures ∙ by (c .before .before .before .args .d) (c .before .enum-told .given .1)

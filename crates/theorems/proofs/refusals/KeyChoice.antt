@@ -1,0 +1,99 @@
+-- The key of a payload goes by the payload's bytes: the network key where there is none, and else by the port. It is the key
+-- that the crate's report of the port selects, for every data frame. A port with nothing behind it changes nothing.
+-- Assumes nothing.
+use mathlib.Core.Path.{_≡_, refl, sym, ap, ap₂, _∙_}
+use mathlib.Core.Bool.{Bool, true}
+use mathlib.Core.List.{List, [], _∷_, _++_, append-nil}
+use Prim.Native.Nat.{ℕ, _+_, _-_, _%_, _≤_, _<_}
+use native.Mathlib.Omega.{arith}
+use lib.Dec.{eqb}
+use lib.ListN.{length, take, drop, take-append-drop}
+use lib.Seq.{getD-take}
+use borrow.Author.Tests.{lt-ltb, le-ltb, eq-eqb}
+use Rattle.base.specs.Bytes.{pick, at}
+use Rattle.base.proofs.Cases.{by-order}
+use Rattle.frame.specs.Conditions.{IsData}
+use Rattle.frame.specs.Layout.{fcnt, fhdrLength, fport, headerEnd, payloadEnd, header, payload}
+use Rattle.frame.specs.Refusals.{refused}
+use Rattle.frame.specs.ReadingNumbers.{onData}
+use Rattle.frame.specs.declared.keys.MaybeKey.{MaybeKey}
+use Rattle.frame.specs.declared.parser.FPort.{FPort}
+use Rattle.frame.specs.declared.parser.FPort.the-variants.{Absent, Port}
+use Rattle.frame.proofs.LayoutLaws.{placed, length-payload}
+use Rattle.frame.proofs.ReadingLaws.{reads-data}
+use Rattle.frame_security.specs.Security.{byNetworkKey, frameKey, crypted, cryptedPart, fullCounter}
+use Rattle.frame_security.proofs.SecurityLaws.{by-port, crypted-long}
+use Rattle.frame_opening.specs.FrameOpening.{Result, result, unopened, decrypted, openedUnder, dataOpened}
+use Rattle.frame_opening.specs.declared.payload.Opening.the-variants.{Opened}
+use Rattle.theorems.specs.KeyChoice.{crateReports, selectedBy, OpensEmpty}
+
+no-length : (l : List ℕ) → length l ≡ 0 → l ≡ []
+no-length [] e = refl
+no-length (x ∷ l) e = absurd (omega arith)
+
+module _ (f : List ℕ) (h : IsData f) where
+  -- the port in the header of a frame that has a payload
+  header-port : 0 < length (payload f) → fport (header f) ≡ fport f
+  header-port some =
+      let p = placed f h in
+      let five : at (header f) 5 ≡ at f 5 = getD-take (headerEnd f) f 5 0 (omega (arith, p .fopts)) in
+      ap (λ (b : ℕ). at (header f) (1 + (7 + b % 16))) five
+      ∙ getD-take (headerEnd f) f (1 + fhdrLength f) 0 (omega (arith, length-payload f))
+
+  pub by-empty : {A : Type 0} → length (payload f) ≡ 0 → (nwk app : A) → frameKey f nwk app ≡ nwk
+  unfolding byNetworkKey
+  by-empty none nwk app =
+      ap (λ (b : Bool). pick (pick b true (eqb (fport (header f)) 0)) nwk app) (eq-eqb (length (payload f)) 0 none)
+
+  pub by-its-port : {A : Type 0} → 0 < length (payload f) → (nwk app : A) → frameKey f nwk app ≡ pick (eqb (fport f) 0) nwk app
+  by-its-port some nwk app =
+      ap (λ (b : Bool). pick b nwk app)
+      (by-port (header f) (length (payload f)) some ∙ ap (λ (q : ℕ). eqb q 0) (header-port some))
+
+  -- the key chosen is the one that was chosen before
+  pub key-kept : {A : Type 0} (nwk app : A) → frameKey f nwk app ≡ selectedBy (crateReports f) nwk app
+  key-kept nwk app =
+      by-order (length f) (fhdrLength f + 6)
+      (λ l.
+      by-empty (omega (arith, length-payload f)) nwk app
+      ∙ ap (λ (b : Bool). selectedBy (pick b (Port (fport f)) Absent) nwk app) (sym (le-ltb (fhdrLength f + 6) (length f) l)))
+      (λ l.
+      by-its-port (omega (arith, length-payload f)) nwk app
+      ∙ ap (λ (b : Bool). selectedBy (pick b (Port (fport f)) Absent) nwk app) (sym (lt-ltb (fhdrLength f + 6) (length f) l)))
+
+  -- ---- a frame without a byte of payload
+
+  module _ (none : length (payload f) ≡ 0) where
+    no-byte : payloadEnd f ≡ headerEnd f
+    no-byte = let p = placed f h in omega (arith, length-payload f, p .payload)
+
+    -- there is nothing to decrypt
+    stays : (key : List ℕ) (counter : ℕ) → decrypted key counter f ≡ f
+    unfolding decrypted cryptedPart
+    stays key counter =
+        let c = crypted key f (fullCounter counter (fcnt f)) (payload f) in
+        let gone : c ≡ [] = no-length c (crypted-long key f (fullCounter counter (fcnt f)) (payload f) ∙ none) in
+        ap₂ (λ (l : List ℕ) (n : ℕ). (take (headerEnd f) f ++ l) ++ drop n f) gone no-byte
+        ∙ ap (λ (l : List ℕ). l ++ drop (headerEnd f) f) (append-nil (take (headerEnd f) f))
+        ∙ take-append-drop (headerEnd f) f
+
+    by-network : (nwk app : MaybeKey) (counter : ℕ) → dataOpened nwk app counter f ≡ openedUnder nwk counter f
+    unfolding dataOpened
+    by-network nwk app counter =
+        ap (onData (λ d. openedUnder (frameKey f nwk app) counter f) (unopened f)) (reads-data f h)
+        ∙ ap (λ (k : MaybeKey). openedUnder k counter f) (by-empty none nwk app)
+
+    pub opens-empty : OpensEmpty f
+    unfolding openedUnder
+    opens-empty =
+        record {
+          without =
+              λ nwk app counter e.
+              by-network nwk app counter
+              ∙ ap (λ (b : Bool). pick b (result Opened (decrypted (nwk .key) counter f)) (unopened f (refused 6))) e;
+          with-it =
+              λ nwk app counter e.
+              by-network nwk app counter
+              ∙ ap (λ (b : Bool). pick b (result Opened (decrypted (nwk .key) counter f)) (unopened f (refused 6))) e
+              ∙ ap (result Opened) (stays (nwk .key) counter);
+        }
