@@ -27,6 +27,9 @@ pub enum Judged {
     Number(u8),
     /// The answer whole; the place of a refusal is the one that the rules name.
     Whole(Vec<u8>),
+    /// A port with nothing behind it, read (row 28 of docs/DIFFERENCES.md): the crate's answer, and what ours has to be. None
+    /// where the crate does not say what the row says.
+    PortAlone { theirs: Vec<u8>, ours: Option<Vec<u8>> },
     /// Lists of MAC commands of which one has a fault, where the crate says nothing or panics: its commands ahead of the fault,
     /// and the end that the rules name.
     ToFault(Vec<u8>),

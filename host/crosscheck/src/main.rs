@@ -14,6 +14,7 @@ const LISTS: [&str; 7] = ["read", "opened", "built", "amended", "held", "places"
 struct Counts {
     cases: usize,
     compared: usize,
+    port_alone: usize,
     to_fault: usize,
     number_only: usize,
     outside: usize,
@@ -43,6 +44,10 @@ impl Counts {
             Judged::Whole(theirs) => {
                 self.compared += 1;
                 whole(theirs)
+            }
+            Judged::PortAlone { theirs, ours: due } => {
+                self.port_alone += 1;
+                (due.as_deref() != Some(ours)).then(|| format!("{} (row 28)", hex(&theirs)))
             }
             Judged::ToFault(theirs) => {
                 self.to_fault += 1;
@@ -79,8 +84,8 @@ fn report<F: Judge>(cipher: &str, lists: &[String], folder: &Path) -> usize {
     for list in lists {
         let c = compare::<F>(list, folder);
         println!(
-            "{cipher}, {list}: {} cases, {} compared whole, {} up to a fault, {} by number, {} outside, {} read back, {} differences",
-            c.cases, c.compared, c.to_fault, c.number_only, c.outside, c.read_back, c.differences
+            "{cipher}, {list}: {} cases, {} compared whole, {} by row 28, {} up to a fault, {} by number, {} outside, {} read back, {} differences",
+            c.cases, c.compared, c.port_alone, c.to_fault, c.number_only, c.outside, c.read_back, c.differences
         );
         differences += c.differences;
     }

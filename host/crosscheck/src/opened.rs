@@ -186,6 +186,24 @@ pub fn read_join_request<F: Judge>(frame: &[u8]) -> Judged {
     })
 }
 
+/// The port of a data frame that has nothing behind it.
+fn port_alone(frame: &[u8]) -> Option<u8> {
+    let header = 7 + usize::from(frame[5] % 16);
+    (frame.len() == header + 6).then(|| frame[1 + header])
+}
+
+/// Where `read_data` puts the port and, behind it, the payload.
+const PORT_AT: usize = 15;
+
+/// What the crate reads of a port with nothing behind it: no port, and data of no byte. By the rules the port is there, and 0
+/// says that commands follow.
+fn with_port(port: u8, theirs: Vec<u8>) -> Judged {
+    let mut ours = theirs.clone();
+    ours[PORT_AT..PORT_AT + 3].copy_from_slice(&[1, port, if port == 0 { 2 } else { 1 }]);
+    let as_written = theirs[PORT_AT..PORT_AT + 3] == [0, 0, 1] && theirs[PORT_AT + 3] == theirs[PORT_AT + 4];
+    Judged::PortAlone { theirs, ours: as_written.then_some(ours) }
+}
+
 pub fn read<F: Judge>(frame: &[u8]) -> Judged {
     let mtype = frame.first().map_or(0, |first| first >> 5);
     let mut copy = frame.to_vec();
@@ -193,7 +211,13 @@ pub fn read<F: Judge>(frame: &[u8]) -> Judged {
         Err(number) => End::on(frame, number).bytes(),
         Ok(PhyPayload::JoinRequest(request)) => [vec![0, mtype], request_fields(&request)].concat(),
         Ok(PhyPayload::JoinAccept(accept)) => vec![0, mtype, accept.as_bytes().len() as u8],
-        Ok(PhyPayload::Data(DataPayload::Encrypted(data))) => read_data(data, mtype),
+        Ok(PhyPayload::Data(DataPayload::Encrypted(data))) => {
+            let theirs = read_data(data, mtype);
+            match port_alone(frame) {
+                Some(port) => return with_port(port, theirs),
+                None => theirs,
+            }
+        }
         Ok(PhyPayload::Data(DataPayload::Decrypted(_))) => unreachable!("the parser decrypts nothing"),
     })
 }

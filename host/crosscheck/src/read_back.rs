@@ -45,7 +45,7 @@ pub fn join_accept<F: Judge>(call: &BuildJoinAccept, answer: &[u8]) -> bool {
         && channels(clear.c_f_list()) == filled
 }
 
-/// Fields, FOpts and the decrypted payload; a port with an empty payload is read as absent.
+/// Fields, FOpts and the decrypted payload; the crate reads a port with an empty payload as absent.
 pub fn data<F: Judge>(call: &BuildData, answer: &[u8]) -> bool {
     let mut frame = frame_of(answer);
     let Ok(data) = parsed_data::<F>(&mut frame) else { return false };

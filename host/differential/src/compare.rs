@@ -13,6 +13,7 @@ use lorawan::keys::AES128;
 pub struct Tally {
     pub cases: usize,
     pub whole: usize,
+    pub port_alone: usize,
     pub to_fault: usize,
     pub by_number: usize,
     pub outside: usize,
@@ -78,7 +79,7 @@ fn holding_differs(case: &Case, call: &Hold, ours: &[u8]) -> Option<String> {
     let number = match judge::<OpenSsl>(case) {
         Judged::Outside => number_outside(case),
         Judged::Number(number) => number,
-        Judged::Whole(answer) | Judged::ToFault(answer) => answer[0],
+        Judged::Whole(answer) | Judged::ToFault(answer) | Judged::PortAlone { theirs: answer, .. } => answer[0],
     };
     let due = end_due(case, number);
     if End::split(ours).0 != due {
@@ -119,6 +120,10 @@ impl Tally {
             Judged::Whole(theirs) => {
                 self.whole += 1;
                 (ours != theirs).then(|| hex(&theirs))
+            }
+            Judged::PortAlone { theirs, ours: due } => {
+                self.port_alone += 1;
+                (due.as_deref() != Some(ours)).then(|| format!("{} (row 28)", hex(&theirs)))
             }
             Judged::ToFault(theirs) => {
                 self.to_fault += 1;

@@ -333,10 +333,39 @@ fn place_of_a_refusal() -> Shown {
     )
 }
 
+/// Port 5 and port 0 with nothing behind them.
+fn port_with_nothing_behind_it() -> Shown {
+    let frames = [5, 0].map(|port| [0x40, 0, 0, 0, 0, 0, 0, 0, port, 0, 0, 0, 0]);
+    let crate_says = frames.map(|mut frame| {
+        let Ok(data) = parsed_data::<OpenSsl>(&mut frame) else { return "refused".into() };
+        let (port, key) = (data.f_port(), AES128([0; 16]));
+        let Ok(open) = data.decrypt(Some(&key), Some(&key), 0) else { return "not opened".into() };
+        match open.frm_payload() {
+            FRMPayload::None => format!("{port:?}, no payload"),
+            FRMPayload::Data(part) => format!("{port:?}, data of {} bytes", part.len()),
+            FRMPayload::MACCommands(part) => format!("{port:?}, commands of {} bytes", part.data().len()),
+        }
+    });
+    let port_says = frames.map(|frame| match port::read(&frame) {
+        Ok(port::Reading::Data(data)) => match data.payload() {
+            port::Payload::None => format!("{:?}, no payload", data.port()),
+            port::Payload::Data(part) => format!("{:?}, data of {} bytes", data.port(), part.len()),
+            port::Payload::Commands(part) => format!("{:?}, commands of {} bytes", data.port(), part.len()),
+        },
+        other => format!("{other:?}"),
+    });
+    shown(
+        crate_says.join("; "),
+        port_says.join("; "),
+        "None, data of 0 bytes; None, data of 0 bytes",
+        "Some(5), data of 0 bytes; Some(0), commands of 0 bytes",
+    )
+}
+
 type Difference = (&'static str, fn() -> Shown);
 
 /// In the order of the numbers of the document's rows.
-const ALL: [Difference; 27] = [
+const ALL: [Difference; 28] = [
     ("a join-accept with a channel list", channel_list),
     ("a frame of 256 bytes, read", long_frame),
     ("a frame of 256 bytes, built into 256", long_building),
@@ -364,6 +393,7 @@ const ALL: [Difference; 27] = [
     ("the direction of DevStatusAns", commands::direction_of_a_command),
     ("the direction of a frame's commands", commands::direction_of_a_frame),
     ("a command that lacks one byte", commands::one_byte_missing),
+    ("a port with nothing behind it", port_with_nothing_behind_it),
 ];
 
 /// Shows each and gives how many are not as written.

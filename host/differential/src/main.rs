@@ -14,9 +14,10 @@ fn argument(place: usize) -> Option<u64> {
 
 fn report(what: &str, since: &Tally, t: &Tally) {
     println!(
-        "{what}: {} cases, {} compared whole, {} up to a fault, {} by number, {} by the written rule, {} read back, {} differences",
+        "{what}: {} cases, {} compared whole, {} by row 28, {} up to a fault, {} by number, {} by the written rule, {} read back, {} differences",
         t.cases - since.cases,
         t.whole - since.whole,
+        t.port_alone - since.port_alone,
         t.to_fault - since.to_fault,
         t.by_number - since.by_number,
         t.outside - since.outside,

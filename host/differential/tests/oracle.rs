@@ -32,10 +32,25 @@ fn cannot_be_said(case: &Case, due: &[u8]) -> bool {
     }
 }
 
-fn compared(folder: &str, names: &[&str]) {
+/// Where the port departs from a recorded answer of the crate: the list, the case, and the answer that is due of the port.
+fn departures() -> Vec<(String, usize, Vec<u8>)> {
+    let path = Path::new(env!("CARGO_MANIFEST_DIR")).join("../recorded/departures");
+    let text = std::fs::read_to_string(path).unwrap();
+    let line = |line: &str| match line.split(' ').collect::<Vec<_>>()[..] {
+        [list, case, "28", due] => (list.into(), case.parse().unwrap(), answers(&format!("{due}\n1 cases\n")).remove(0)),
+        _ => panic!("a line of departures: {line}"),
+    };
+    text.lines().map(line).collect()
+}
+
+fn compared(folder: &str, names: &[&str], departures: &[(String, usize, Vec<u8>)]) {
     for name in names {
         let mut left_out = 0;
-        for (place, (case, due)) in list(folder, name).into_iter().enumerate() {
+        for (place, (case, mut due)) in list(folder, name).into_iter().enumerate() {
+            if let Some((_, _, ours)) = departures.iter().find(|(list, at, _)| list == name && *at == place) {
+                assert_ne!(*ours, due, "no departure: {name}, record {place}");
+                due.clone_from(ours);
+            }
             if cannot_be_said(&case, &due) {
                 left_out += 1;
             } else {
@@ -48,10 +63,12 @@ fn compared(folder: &str, names: &[&str]) {
 
 #[test]
 fn answers_of_the_oracle() {
-    compared("tools/oracle/out", &["read", "opened", "built", "amended", "held", "places", "commands"]);
+    compared("tools/oracle/out", &["read", "opened", "built", "amended", "held", "places", "commands"], &[]);
 }
 
 #[test]
 fn answers_of_the_crate() {
-    compared("host/recorded", &["read", "opened", "built"]);
+    let departures = departures();
+    compared("host/recorded", &["read", "opened", "built"], &departures);
+    assert_eq!(departures.len(), 1);
 }

@@ -73,11 +73,14 @@ impl JoinRequestFields {
     }
 }
 
-/// The payload of a data frame, enciphered if the frame is.
+/// The payload of a data frame, enciphered if the frame is. The bytes behind a port may be none.
 #[derive(Clone, Copy, Debug, PartialEq, Eq)]
 pub enum Payload<'a> {
+    /// There is no port.
     None,
+    /// What stands behind a port other than 0.
     Data(&'a [u8]),
+    /// What stands behind port 0.
     Commands(&'a [u8]),
 }
 
@@ -135,7 +138,27 @@ impl<'a> DataFields<'a> {
         &rest[..self.packed.fopts_len().min(rest.len())]
     }
 
-    /// Absent too where a port is followed by no payload.
+    /// The port, also where nothing follows it, as in a heartbeat:
+    ///
+    /// ```
+    /// use zinovoky::{decrypt_data_checked, read, AppSKey, Data, DataKind, NwkSKey, Payload, Reading, Refusal};
+    /// let (nwk_skey, app_skey) = (NwkSKey([2; 16]), AppSKey([1; 16]));
+    /// let heartbeat = Data {
+    ///     kind: DataKind::UnconfirmedUp,
+    ///     dev_addr: [4, 3, 2, 1],
+    ///     fctrl: 0,
+    ///     counter: 5,
+    ///     port: Some(5),
+    ///     commands: &[],
+    ///     payload: &[],
+    /// };
+    /// let mut frame = heartbeat.build(&nwk_skey, &app_skey)?;
+    /// assert_eq!(frame[..], [0x40, 4, 3, 2, 1, 0, 5, 0, 5, 0x14, 0x33, 0x4d, 0x85]);
+    /// decrypt_data_checked(frame.as_mut_bytes(), &nwk_skey, None, 5)?; // no key but the network's is needed
+    /// let Reading::Data(data) = read(&frame)? else { panic!("another type") };
+    /// assert_eq!((data.port(), data.payload()), (Some(5), Payload::Data(&[])));
+    /// # Ok::<(), Refusal>(())
+    /// ```
     #[inline]
     pub fn port(&self) -> Option<u8> {
         self.packed.has_port().then_some(self.packed.port())

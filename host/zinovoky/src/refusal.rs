@@ -37,7 +37,7 @@ reasons! {
     InvalidData = 4,
     /// A checked opening found another MIC.
     InvalidMic = 5,
-    /// The key that the port selects was not given.
+    /// The key of the payload was not given: the network key if it is empty or on port 0, else the application key.
     InvalidKey = 6,
     /// No room for the answer: 255 bytes for data, 23 for a join-request, 17 or 33 for a join-accept, 1 to 6 for a command.
     BufferTooShort = 7,
@@ -157,7 +157,7 @@ impl fmt::Display for Refusal {
             (FrameTooLong, 0) => f.write_str("a frame to build of more than 255 bytes"),
             (FrameTooLong, length) => write!(f, "{length} bytes"),
             (InvalidMic, _) => f.write_str("the MIC differs"),
-            (InvalidKey, _) => f.write_str("the key that the port selects was not given"),
+            (InvalidKey, _) => f.write_str("the key of the payload was not given: the network key if it is empty or on port 0"),
             (BufferTooShort, _) => f.write_str("no room for the answer"),
             (InvalidChannelList, _) => f.write_str("over five channels, or one above 16,777,215"),
             (MacCommandTooBigForFOpts, _) => f.write_str("commands over 15 bytes that are not for port 0"),

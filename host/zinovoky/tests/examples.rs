@@ -1,4 +1,4 @@
-//! The examples P1 to P16 of docs/RULES.md, and calls on every length.
+//! The examples P1 to P17 of docs/RULES.md, and calls on every length.
 
 use zinovoky::*;
 
@@ -41,8 +41,10 @@ fn accepted() {
     }
     let fopts = frame(0x40, 13, &[(5, 1), (8, 9)]); // P5
     assert_eq!((data(&fopts).fopts(), data(&fopts).payload()), (&[9][..], Payload::None));
-    let empty = frame(0x40, 13, &[]); // P6
-    assert_eq!((data(&empty).port(), data(&empty).payload()), (None, Payload::Data(&[])));
+    let no_commands = frame(0x40, 13, &[]); // P6
+    assert_eq!((data(&no_commands).port(), data(&no_commands).payload()), (Some(0), Payload::Commands(&[])));
+    let no_data = frame(0x40, 13, &[(8, 5)]); // P17
+    assert_eq!((data(&no_data).port(), data(&no_data).payload()), (Some(5), Payload::Data(&[])));
     let commands = frame(0x40, 14, &[(9, 7)]); // P7
     assert_eq!((data(&commands).port(), data(&commands).payload()), (Some(0), Payload::Commands(&[7])));
 }
@@ -78,6 +80,26 @@ fn counter() {
     let mut frame = fields.build(&KEYS.0, &KEYS.1).unwrap();
     decrypt_data(frame.as_mut_bytes(), None, Some(&KEYS.1), 0x0001_ffff).unwrap();
     assert_eq!(data(&frame).payload(), Payload::Data(b"counted"));
+}
+
+/// A port with nothing behind it: read back, under the network key, and without a byte to amend.
+#[test]
+fn heartbeat() {
+    for (port, payload) in [(0, Payload::Commands(&[])), (5, Payload::Data(&[])), (255, Payload::Data(&[]))] {
+        let (kind, dev_addr) = (DataKind::UnconfirmedUp, [4, 3, 2, 1]);
+        let fields = Data { kind, dev_addr, fctrl: 0, counter: 5, port: Some(port), commands: &[], payload: &[] };
+        let mut frame = fields.build(&KEYS.0, &KEYS.1).unwrap();
+        let built = frame;
+        assert_eq!((data(&frame).port(), data(&frame).payload()), (Some(port), payload));
+        assert_eq!(data(&frame).payload_commands().next(), None);
+        let refused = decrypt_data(frame.as_mut_bytes(), None, Some(&KEYS.1), 5);
+        assert_eq!(refused, Err(Reason::InvalidKey.at(0)));
+        decrypt_data(frame.as_mut_bytes(), Some(&KEYS.0), None, 5).unwrap();
+        decrypt_data_checked(frame.as_mut_bytes(), &KEYS.0, None, 5).unwrap();
+        let amended = amend(frame.as_mut_bytes(), &KEYS.0, &KEYS.1, 5, &[Amendment::new(0, 1)]);
+        assert_eq!(amended, Err(Reason::OffsetOutside.at(0)));
+        assert_eq!(frame, built);
+    }
 }
 
 #[test]

@@ -104,7 +104,10 @@ fn texts() {
         (Reason::InvalidData.at(5), "InvalidData: the header does not fit, byte 5"),
         (Reason::InvalidData.at(22), "InvalidData: a join message of 22 bytes"),
         (Reason::InvalidMic.at(0), "InvalidMic: the MIC differs"),
-        (Reason::InvalidKey.at(0), "InvalidKey: the key that the port selects was not given"),
+        (
+            Reason::InvalidKey.at(0),
+            "InvalidKey: the key of the payload was not given: the network key if it is empty or on port 0",
+        ),
         (Reason::BufferTooShort.at(0), "BufferTooShort: no room for the answer"),
         (Reason::InvalidChannelList.at(0), "InvalidChannelList: over five channels, or one above 16,777,215"),
         (

@@ -1,7 +1,8 @@
 //! Records answers of the crate, in the format of tools/oracle: lists `read`, `opened` and `built`, each a case file
 //! (`.stdin`) and the crate's answers (`.stdout`). Arguments: a seed, then the folder to write into. Only answers that
 //! are the crate's whole are kept; amendments are not, since the crate has none. The place of a refusal is not the
-//! crate's: crosscheck computes it by the rules.
+//! crate's: crosscheck computes it by the rules. Where ours departs from a kept answer, `departures` has a line: the list, the
+//! case counted from 0, the row of docs/DIFFERENCES.md, and the answer that is due of ours.
 
 use crosscheck::records::{hex, Case};
 use crosscheck::{judge, Judged};
@@ -14,6 +15,7 @@ use std::{env, fs};
 
 /// How many answers of each call are kept: half of them accepted, half refused as far as the crate refuses there.
 const EACH: usize = 100;
+const NAMES: [&str; 3] = ["read", "opened", "built"];
 /// Random cases tried; the last calls are full long before.
 const TRIED: usize = 200_000;
 
@@ -53,9 +55,14 @@ fn main() {
     let mut random = Random::new(seed);
     let mut lists = [List::default(), List::default(), List::default()];
     let mut kept = [[0; 2]; 18];
+    let mut departures = String::new();
     for _ in 0..TRIED {
         let case = cases::any(&mut random);
-        let Judged::Whole(answer) = judge::<OpenSsl>(&case) else { continue };
+        let (answer, departs) = match judge::<OpenSsl>(&case) {
+            Judged::Whole(answer) => (answer, None),
+            Judged::PortAlone { theirs, ours } => (theirs, Some(ours.expect("the crate says what row 28 says"))),
+            _ => continue,
+        };
         let (kind, refused) = (kind(&case), usize::from(answer[0] != 0));
         if matches!(case, Case::AmendLent(_)) || kept[kind][refused] == EACH / 2 {
             continue;
@@ -66,9 +73,13 @@ fn main() {
             9..=11 => 2,
             _ => 1,
         };
+        if let Some(ours) = departs {
+            departures += &format!("{} {} 28 {}\n", NAMES[list], lists[list].count, hex(&ours));
+        }
         lists[list].push(&case, &answer);
     }
-    for (list, name) in lists.iter().zip(["read", "opened", "built"]) {
+    for (list, name) in lists.iter().zip(NAMES) {
         list.write(Path::new(&folder), name);
     }
+    fs::write(Path::new(&folder).join("departures"), departures).expect("the departures");
 }
