@@ -118,10 +118,13 @@ static void data_decryption(void) {
     TRY(0, zinovoky_decrypt_data(BECOMES(DOWN, DOWN_CLEAR), 1, KEY(NWK), KEY(APP), 0x10000));
     TRY(6, zinovoky_decrypt_data(LENT(DATA), 1, KEY(NWK), KEY(APP), 1));
     TRY(6, zinovoky_decrypt_data(LENT(BARE), 2, KEY(NWK), KEY(APP), 1));
+    TRY(6, zinovoky_decrypt_data(LENT(PORT_ALONE), 2, KEY(NWK), KEY(APP), 0));
+    TRY(0, zinovoky_decrypt_data(LENT(PORT_ALONE), 1, KEY(NWK), KEY(APP), 0));
     TRY(4, zinovoky_decrypt_data(LENT(REQUEST), 3, KEY(NWK), KEY(APP), 1));
 
     TRY(0, zinovoky_decrypt_data_checked(BECOMES(DATA, DATA_CLEAR), 3, KEY(NWK), KEY(APP), 1));
     TRY(0, zinovoky_decrypt_data_checked(BECOMES(DOWN, DOWN_CLEAR), 0, KEY(NWK), KEY(APP), 0x1fffe));
+    TRY(0, zinovoky_decrypt_data_checked(LENT(PORT_ALONE), 0, KEY(NWK), KEY(APP), 0));
     TRY(5, zinovoky_decrypt_data_checked(LENT(DATA), 3, KEY(NWK), KEY(APP), 0));
     TRY(6, zinovoky_decrypt_data_checked(LENT(DATA), 1, KEY(NWK), KEY(APP), 1));
     TRY(4, zinovoky_decrypt_data_checked(LENT(ACCEPT), 3, KEY(NWK), KEY(APP), 0));
@@ -179,6 +182,7 @@ static void data_building(void) {
     TRY(LENGTH(12), zinovoky_build_data(2, ADDR(ZEROS), 0, 0, 256, NONE, NONE, KEYS, ANSWER(255, BARE)));
     TRY(LENGTH(12), zinovoky_build_data(2, ADDR(ZEROS), 0, 0, 65535, NONE, NONE, KEYS, ANSWER(255, BARE)));
     TRY(LENGTH(13), zinovoky_build_data(2, ADDR(ZEROS), 0, 0, 9, NONE, NONE, KEYS, ANSWER(255, PORT_ALONE)));
+    TRY(LENGTH(13), zinovoky_build_data(2, ADDR(ZEROS), 0, 0, 0, NONE, NONE, KEYS, ANSWER(255, NO_COMMANDS)));
 }
 
 /* Each number that the builder gives; the kind is tested ahead of the room. */
@@ -208,6 +212,7 @@ static void amending(void) {
     TRY(0, zinovoky_amend(LENT(DATA), KEYS, 1, NONE));
     TRY(15, zinovoky_amend(LENT(DATA), KEYS, 1, NUMBERS(OUTSIDE)));
     TRY(15, zinovoky_amend(LENT(BARE), KEYS, 0, NUMBERS(FAR_OUTSIDE)));
+    TRY(15, zinovoky_amend(LENT(PORT_ALONE), KEYS, 0, NUMBERS(FAR_OUTSIDE)));
     TRY(14, zinovoky_amend(LENT(DATA), KEYS, 0x10000, NUMBERS(TO_JELLY)));
     TRY(5, zinovoky_amend(LENT(DATA), KEYS, 0x10001, NUMBERS(TO_JELLY)));
     TRY(4, zinovoky_amend(LENT(ACCEPT), KEYS, 1, NUMBERS(TO_JELLY)));

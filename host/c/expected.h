@@ -69,6 +69,10 @@ static const uint8_t BARE[12] = {
 static const uint8_t PORT_ALONE[13] = {
     0x40, 0x00, 0x00, 0x00, 0x00, 0x00, 0x00, 0x00, 0x09, 0x1a, 0xed, 0x80, 0x6b};
 
+/* the same with port 0 and no command behind it */
+static const uint8_t NO_COMMANDS[13] = {
+    0x40, 0x00, 0x00, 0x00, 0x00, 0x00, 0x00, 0x00, 0x00, 0xeb, 0x46, 0xa7, 0xfd};
+
 /* confirmed up, counter 1, port 1, 242 zeros: 255 bytes */
 static const uint8_t LONGEST[255] = {
     0x80, 0x04, 0x03, 0x02, 0x01, 0x00, 0x01, 0x00, 0x01, 0xce, 0xf1, 0x08, 0x4a, 0x7a, 0x22, 0xa9,
@@ -516,6 +520,7 @@ static const struct reading READINGS[] = {
     {"FOPTS", FOPTS, 35, 0xfffe921f0bc81b00, 0, 0, 3, 1, 200, 1, 11, 20, 31, 146, 2, 65534},
     {"BARE", BARE, 12, 0x0000000808000200, 0, 0, 2, 0, 0, 0, 8, 0, 8, 0, 0, 0},
     {"PORT_ALONE", PORT_ALONE, 13, 0x0000000909091a00, 0, 0, 2, 1, 9, 1, 9, 0, 9, 0, 0, 0},
+    {"NO_COMMANDS", NO_COMMANDS, 13, 0x0000000909002a00, 0, 0, 2, 1, 0, 2, 9, 0, 9, 0, 0, 0},
     {"LONGEST", LONGEST, 255, 0x000100fb09011c00, 0, 0, 4, 1, 1, 1, 9, 242, 251, 0, 0, 1},
     {"REQUEST", REQUEST, 23, 0x0000001313000000, 0, 0, 0, 0, 0, 0, 19, 0, 19, 0, 0, 0},
     {"ACCEPT", ACCEPT, 17, 0x0000000d0d000100, 0, 0, 1, 0, 0, 0, 13, 0, 13, 0, 0, 0},

@@ -164,7 +164,7 @@ def join_messages():
 def data_frames():
     bare, down = build(BARE_FIELDS, b"", b""), build(DOWN_FIELDS, DOWN_COMMANDS, b"")
     fopts = build(FOPTS_FIELDS, FOPTS_COMMANDS, FOPTS_PAYLOAD)
-    port_alone = build(BARE_FIELDS._replace(port=9), b"", b"")
+    port_alone, no_commands = (build(BARE_FIELDS._replace(port=port), b"", b"") for port in (9, 0))
     return [
         ("NWK", NETWORK, "the network key of all data frames here"),
         ("APP", APPLICATION, "their application key"),
@@ -180,6 +180,7 @@ def data_frames():
         ("FOPTS_PAYLOAD", FOPTS_PAYLOAD, "its payload"),
         ("BARE", bare, "up, counter 0, neither port nor payload"),
         ("PORT_ALONE", port_alone, "the same with port 9 and no payload behind it"),
+        ("NO_COMMANDS", no_commands, "the same with port 0 and no command behind it"),
         ("LONGEST", build(LONGEST_FIELDS, b"", bytes(242)), "confirmed up, counter 1, port 1, 242 zeros: 255 bytes"),
         ("VERSION", bytes([0x41]) + bytes(11), "docs/RULES.md: version 1"),
         ("TYPE_6", bytes([0xC0]) + bytes(11), "type 6"),
@@ -331,7 +332,7 @@ def commands_written():
 
 def readings(arrays):
     frames = {name: value for name, value, _ in arrays}
-    good = "DATA DOWN FOPTS BARE PORT_ALONE LONGEST REQUEST ACCEPT LISTED"
+    good = "DATA DOWN FOPTS BARE PORT_ALONE NO_COMMANDS LONGEST REQUEST ACCEPT LISTED"
     bad = "VERSION TYPE_6 HEADER_SHORT LONG LONGER"
     cuts = [("no byte", "DATA", 0), ("eleven bytes", "DATA", 11), ("a join-request cut short", "REQUEST", 22)]
     cuts += [("a join-accept cut short", "ACCEPT", 16), ("a longer one cut short", "LISTED", 32)]
