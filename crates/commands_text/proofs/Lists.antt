@@ -1,6 +1,6 @@
 -- The lists of commands that a frame has lie within it.
 -- Assumes nothing.
-use mathlib.Core.Path.{_≡_, refl, sym, ap, subst}
+use mathlib.Core.Path.{_≡_, refl, sym, subst}
 use mathlib.Core.List.{List}
 use Prim.Native.Nat.{ℕ, _+_, _-_, _≤_}
 use native.Mathlib.Omega.{arith}
@@ -20,7 +20,6 @@ use Rattle.frame.specs.declared.parser.Reading.the-variants.{JoinRequest, JoinA
 use Rattle.frame.proofs.ReadingLaws.{data-read, data-fields}
 use Rattle.mac_commands.specs.InFrame.{commandsFrom, commandsTo, listsOf, inFrame}
 use Rattle.mac_commands.specs.declared.in_frame.CommandLists.{CommandLists}
-use Rattle.mac_commands.specs.declared.in_frame.InFrame.{InFrame}
 use Rattle.mac_commands.specs.declared.in_frame.InFrame.the-variants.{Lists}
 use Rattle.mac_commands.specs.declared.in_frame.InFrame.the-variants.{Refused as Unread}
 use Rattle.commands_text.specs.Within.{Within}

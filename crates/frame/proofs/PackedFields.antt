@@ -5,7 +5,7 @@ use mathlib.Core.Path.{_≡_, sym, ap, _∙_, subst}
 use mathlib.Core.Bool.{Bool, true, false}
 use mathlib.Core.List.{List, [], _∷_}
 use mathlib.Core.Logic.{⊎-elim}
-use Prim.Native.Nat.{ℕ, zero, suc, _+_, _-_, _*_, _/_, _%_, _^_, _≤_, _<_}
+use Prim.Native.Nat.{ℕ, zero, suc, _+_, _-_, _/_, _%_, _^_, _<_}
 use native.Mathlib.Omega.{arith}
 use lib.ListN.{length}
 use lib.Pow.{high, low, shr-shr}
@@ -13,7 +13,7 @@ use Rattle.base.specs.Bytes.{pick, AreBytes}
 use Rattle.base.proofs.Cases.{by-order}
 use Rattle.frame.specs.Layout.{mtype, fctrl, fcnt, fhdrLength, headerEnd}
 use Rattle.frame.specs.Reading.{portOf, payloadOf, dataOf, readOf}
-use Rattle.frame.specs.ReadingNumbers.{portGiven, portNumber, payloadKind, numberOf, placeOf}
+use Rattle.frame.specs.ReadingNumbers.{portGiven, portNumber, payloadKind, numberOf}
 use Rattle.frame.specs.Conditions.{IsData}
 use Rattle.frame.specs.PackedReading.{Bits, packed, nth, bitAt, Fit, payloadAt, bitsOfData, bitsOf, packedOf}
 use Rattle.frame.specs.declared.parser.FrmPayload.{FrmPayload}

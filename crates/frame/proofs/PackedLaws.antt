@@ -3,7 +3,7 @@
 use mathlib.Core.Path.{_≡_, refl, sym, ap, _∙_}
 use mathlib.Core.List.{List}
 use mathlib.Core.Logic.{⊎-elim}
-use Prim.Native.Nat.{ℕ, _+_, _-_, _*_, _%_, _≤_, _<_}
+use Prim.Native.Nat.{ℕ, _+_, _-_, _*_, _≤_, _<_}
 use native.Mathlib.Omega.{arith}
 use lib.Dec.{eqb}
 use lib.ListN.{length}
@@ -11,12 +11,12 @@ use borrow.Author.Tests.{eq-eqb, ne-eqb}
 use Rattle.base.specs.Bytes.{pick}
 use Rattle.base.proofs.Cases.{by-order, by-equal}
 use Rattle.frame.specs.Layout.{mtype, fctrl, fcnt, fhdrLength, fport, headerEnd}
-use Rattle.frame.specs.Reading.{portOf, payloadOf, dataOf, readOf}
+use Rattle.frame.specs.Reading.{payloadOf, dataOf, readOf}
 use Rattle.frame.specs.Conditions.{IsData}
 use Rattle.frame.specs.PackedReading.{packed, accepted, bitsOfJoin, packedOf, numbered, payloadAt, portBits}
 use Rattle.frame.specs.declared.refusals.Refusal.{Refusal}
 use Rattle.frame.specs.declared.parser.Reading.{Reading}
-use Rattle.frame.specs.declared.parser.Reading.the-variants.{JoinRequest, JoinAccept, Data, Refused}
+use Rattle.frame.specs.declared.parser.Reading.the-variants.{JoinRequest, JoinAccept, Refused}
 use Rattle.frame.proofs.ReadingLaws.{reads-data, accept-read}
 use Rattle.frame.proofs.ReadingSteps as steps
 

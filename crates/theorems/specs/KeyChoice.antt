@@ -1,4 +1,4 @@
--- Which key a payload is under (docs/RULES.md, Keys), and what that means for a frame whose port has nothing behind it.
+-- Which key a payload is under (docs/RULES.md, Cryptography), and what that means for a frame whose port has nothing behind it.
 -- Assumes nothing.
 use mathlib.Core.Path.{_≡_}
 use mathlib.Core.Bool.{true, false}
@@ -8,11 +8,13 @@ use lib.Dec.{ltb, eqb}
 use lib.ListN.{length}
 use Rattle.base.specs.Bytes.{pick}
 use Rattle.frame.specs.Layout.{fhdrLength, fport}
+use Rattle.frame.specs.Reading.{readOf}
+use Rattle.frame.specs.ReadingNumbers.{onData}
 use Rattle.frame.specs.Refusals.{refused}
 use Rattle.frame.specs.declared.keys.MaybeKey.{MaybeKey}
 use Rattle.frame.specs.declared.parser.FPort.{FPort}
 use Rattle.frame.specs.declared.parser.FPort.the-variants.{Absent, Port}
-use Rattle.frame_opening.specs.FrameOpening.{result, unopened, dataOpened}
+use Rattle.frame_opening.specs.FrameOpening.{Result, result, unopened, openedUnder, dataOpened}
 use Rattle.frame_opening.specs.declared.payload.Opening.the-variants.{Opened}
 
 -- the port that the crate reports, and this codec did before: that of a frame with a byte of payload behind it
@@ -23,6 +25,10 @@ crateReports f = pick (ltb (fhdrLength f + 6) (length f)) (Port (fport f)) Absen
 abbrev pub selectedBy : {A : Type 0} → FPort → A → A → A
 selectedBy Absent nwk app = nwk
 selectedBy (Port n) nwk app = pick (eqb n 0) nwk app
+
+-- what opening gives of any bytes where that key is taken
+abbrev pub openedAsBefore : MaybeKey → MaybeKey → ℕ → List ℕ → Result
+openedAsBefore nwk app counter f = onData (λ d. openedUnder (selectedBy (crateReports f) nwk app) counter f) (unopened f) (readOf f)
 
 -- opening a data frame f that has no byte of payload: 6 without the network key, and with it alone it opens; every byte stays
 pub record OpensEmpty (f : List ℕ) : Type 0 where

@@ -9,7 +9,7 @@ use native.Mathlib.Omega.{arith}
 use lib.Dec.{eqb}
 use lib.ListN.{length, drop, length-drop}
 use lib.Seq.{take-all}
-use borrow.Author.Tests.{lt-ltb, le-ltb, le-leb, lt-leb}
+use borrow.Author.Tests.{le-ltb, le-leb, lt-leb}
 use Rattle.base.specs.Bytes.{pick, at, part}
 use Rattle.base.proofs.Cases.{by-bool, by-order}
 use Rattle.frame.specs.Layout.{fhdrLength, hasPort, fport, headerEnd, payloadStart, payloadEnd}

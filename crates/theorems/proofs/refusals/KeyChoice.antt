@@ -4,7 +4,7 @@
 use mathlib.Core.Path.{_≡_, refl, sym, ap, ap₂, _∙_}
 use mathlib.Core.Bool.{Bool, true}
 use mathlib.Core.List.{List, [], _∷_, _++_, append-nil}
-use Prim.Native.Nat.{ℕ, _+_, _-_, _%_, _≤_, _<_}
+use Prim.Native.Nat.{ℕ, _+_, _-_, _%_, _<_}
 use native.Mathlib.Omega.{arith}
 use lib.Dec.{eqb}
 use lib.ListN.{length, take, drop, take-append-drop}
@@ -14,18 +14,20 @@ use Rattle.base.specs.Bytes.{pick, at}
 use Rattle.base.proofs.Cases.{by-order}
 use Rattle.frame.specs.Conditions.{IsData}
 use Rattle.frame.specs.Layout.{fcnt, fhdrLength, fport, headerEnd, payloadEnd, header, payload}
+use Rattle.frame.specs.Reading.{readOf}
 use Rattle.frame.specs.Refusals.{refused}
 use Rattle.frame.specs.ReadingNumbers.{onData}
 use Rattle.frame.specs.declared.keys.MaybeKey.{MaybeKey}
-use Rattle.frame.specs.declared.parser.FPort.{FPort}
 use Rattle.frame.specs.declared.parser.FPort.the-variants.{Absent, Port}
+use Rattle.frame.specs.declared.parser.Reading.{Reading}
+use Rattle.frame.specs.declared.parser.Reading.the-variants.{JoinRequest, JoinAccept, Data, Refused}
 use Rattle.frame.proofs.LayoutLaws.{placed, length-payload}
-use Rattle.frame.proofs.ReadingLaws.{reads-data}
+use Rattle.frame.proofs.ReadingLaws.{reads-data, data-read}
 use Rattle.frame_security.specs.Security.{byNetworkKey, frameKey, crypted, cryptedPart, fullCounter}
 use Rattle.frame_security.proofs.SecurityLaws.{by-port, crypted-long}
-use Rattle.frame_opening.specs.FrameOpening.{Result, result, unopened, decrypted, openedUnder, dataOpened}
+use Rattle.frame_opening.specs.FrameOpening.{result, unopened, decrypted, openedUnder, dataOpened}
 use Rattle.frame_opening.specs.declared.payload.Opening.the-variants.{Opened}
-use Rattle.theorems.specs.KeyChoice.{crateReports, selectedBy, OpensEmpty}
+use Rattle.theorems.specs.KeyChoice.{crateReports, selectedBy, openedAsBefore, OpensEmpty}
 
 no-length : (l : List ℕ) → length l ≡ 0 → l ≡ []
 no-length [] e = refl
@@ -97,3 +99,19 @@ module _ (f : List ℕ) (h : IsData f) where
               ∙ ap (λ (b : Bool). pick b (result Opened (decrypted (nwk .key) counter f)) (unopened f (refused 6))) e
               ∙ ap (result Opened) (stays (nwk .key) counter);
         }
+
+-- ---- of any bytes
+
+-- what an opening answers, and every byte that it leaves, is what it was by the crate's report
+module _ (nwk app : MaybeKey) (counter : ℕ) (f : List ℕ) where
+  by-reading : (r : Reading) → readOf f ≡ r
+      → onData (λ d. openedUnder (frameKey f nwk app) counter f) (unopened f) r
+      ≡ onData (λ d. openedUnder (selectedBy (crateReports f) nwk app) counter f) (unopened f) r
+  by-reading JoinRequest e = refl
+  by-reading (JoinAccept n) e = refl
+  by-reading (Data d) e = ap (λ (k : MaybeKey). openedUnder k counter f) (key-kept f (data-read f e) nwk app)
+  by-reading (Refused r) e = refl
+
+  pub opening-kept : dataOpened nwk app counter f ≡ openedAsBefore nwk app counter f
+  unfolding dataOpened
+  opening-kept = by-reading (readOf f) refl

@@ -5,12 +5,12 @@ use mathlib.Core.Path.{_≡_, refl, sym, ap, _∙_, subst}
 use mathlib.Core.Logic.{⊎-elim}
 use mathlib.Core.Bool.{Bool, true, false, not}
 use mathlib.Core.List.{List, []}
-use Prim.Native.Nat.{ℕ, _+_, _%_, _≤_, _<_}
+use Prim.Native.Nat.{ℕ, _<_}
 use native.Mathlib.Omega.{arith}
 use lib.Dec.{eqb}
 use lib.ListN.{length}
 use borrow.Author.Tests.{eqb-true, eqb-false, eq-eqb, ne-eqb}
-use Rattle.base.specs.Bytes.{pick, at}
+use Rattle.base.specs.Bytes.{pick}
 use Rattle.base.proofs.Cases.{by-bool, by-order}
 use Rattle.frame.specs.Conditions.{IsJoinAccept, IsData}
 use Rattle.frame.specs.JoinFields.{requestFields, noRequest, joinRequestFields, acceptFields, noAccept, joinAcceptFields}
@@ -35,7 +35,6 @@ use Rattle.frame_opening.specs.declared.join_accept.SessionKeys.{SessionKeys}
 use Rattle.frame_opening.specs.CheckedOpening.{openedTested, dataOpenedChecked, acceptTested, acceptOpenedChecked}
 use Rattle.frame_opening.specs.declared.mic_tests.MicTest.{MicTest}
 use Rattle.frame_opening.specs.declared.mic_tests.MicTest.the-variants.{Passes, Fails, Refused as RefusedTest}
-use Rattle.frame_opening.specs.declared.payload.Opening.{Opening}
 use Rattle.frame_opening.specs.declared.payload.Opening.the-variants.{Opened, Refused}
 use Rattle.theorems.specs.Exactly.{Exactly, Condition}
 use Rattle.theorems.specs.ByReading.{Needs, join-request, join-accept, data-frame, Is, ByReading, AfterReading}
