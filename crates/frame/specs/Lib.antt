@@ -1,6 +1,5 @@
 pub mod Conditions
 pub mod Faults
-pub mod Fctrl
 pub mod JoinFields
 pub mod Layout
 pub mod PackedReading

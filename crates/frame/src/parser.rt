@@ -6,7 +6,6 @@ ghost use Rattle.frame.specs.Layout.{fhdrLength, hasPort};
 ghost use Rattle.frame.specs.Refusals.{refusal};
 ghost use Rattle.frame.specs.Reading.{portOf, heldBy, readJoinRequest, readJoinAccept, readData, readType, readOf};
 ghost use Rattle.frame.specs.declared.parser.Reading.the-variants.{Refused};
-use crate::fctrl::message_type;
 use crate::packet_length::FCNT_AT;
 use crate::packet_length::FCTRL_AT;
 use crate::packet_length::FHDR_MIN_LEN;
@@ -23,6 +22,7 @@ use crate::refusals::INVALID_PAYLOAD;
 use crate::refusals::Refusal;
 use crate::refusals::UNSUPPORTED_MAJOR_VERSION;
 use base::storing::wide;
+use frame_bits::fctrl::message_type;
 
 // The port that a data frame reports (4.3.2).
 pub enum FPort {

@@ -6,7 +6,7 @@ use mathlib.Core.List.{List, [], _∷_}
 use Prim.Native.Nat.{ℕ, _/_, _%_}
 use lib.Dec.{ltb, eqb}
 use Rattle.base.specs.Bytes.{pick, at}
-use Rattle.frame.specs.Fctrl.{uplinkOf, confirmedOf}
+use Rattle.frame_bits.specs.Fctrl.{uplinkOf, confirmedOf}
 use Rattle.frame.specs.declared.parser.FPort.{FPort}
 use Rattle.frame.specs.declared.parser.FPort.the-variants.{Absent, Port}
 use Rattle.frame_build.specs.declared.creator.data_frame.DataParts.{DataParts}

@@ -1,16 +1,16 @@
 // Reading.
 ghost use mathlib.Core.Path.{_≡_};
 ghost use Rattle.frame.specs.PackedReading.{packedOf};
-ghost use Rattle.frame.specs.Fctrl.{nwkIdOf};
+ghost use Rattle.frame_bits.specs.Fctrl.{nwkIdOf};
 ghost use Rattle.frame.specs.Reading.{readOf};
 ghost use Rattle.frame.specs.JoinFields.{joinRequestFields, joinAcceptFields};
 ghost use Rattle.frame_c.specs.CStored.{RequestInto, AcceptInto};
 use crate::conversions::reading::store_accept;
 use crate::conversions::reading::store_request;
-use frame::fctrl::nwk_id;
 use frame::join_fields::join_accept_fields;
 use frame::join_fields::join_request_fields;
 use frame::packed::read_packed;
+use frame_bits::fctrl::nwk_id;
 
 #[no_mangle]
 pub extern "C" fn zinovoky_read(frame: &[u8]) -> u64

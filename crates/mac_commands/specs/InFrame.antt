@@ -5,7 +5,7 @@ use mathlib.Core.Bool.{Bool, true, false}
 use mathlib.Core.List.{List}
 use Prim.Native.Nat.{ℕ}
 use lib.ListN.{take}
-use Rattle.frame.specs.Fctrl.{uplinkOf}
+use Rattle.frame_bits.specs.Fctrl.{uplinkOf}
 use Rattle.frame.specs.Reading.{readOf}
 use Rattle.frame.specs.ReadingNumbers.{onData}
 use Rattle.frame.specs.declared.parser.FrmPayload.{FrmPayload}
@@ -22,7 +22,7 @@ onPort0 Nothing = false
 onPort0 (PlainData a b) = false
 onPort0 (MacCommands a b) = true
 
--- where that list begins and ends: at the MIC where the payload is none
+-- where that list begins and ends: at the MIC where the payload is no list
 abbrev pub commandsFrom : FrmPayload → ℕ → ℕ
 commandsFrom Nothing mic = mic
 commandsFrom (PlainData a b) mic = mic

@@ -1,13 +1,13 @@
 // Where the commands of a data frame lie.
 ghost use mathlib.Core.Path.{_≡_};
 ghost use Rattle.mac_commands.specs.InFrame.{listsBetween, listsOf, inFrame};
-use frame::fctrl::is_uplink;
 use frame::numbers::other_refusal;
 use frame::parser::DataFrame;
 use frame::parser::FrmPayload;
 use frame::parser::Reading;
 use frame::parser::read;
 use frame::refusals::Refusal;
+use frame_bits::fctrl::is_uplink;
 
 // The direction of a frame's commands, and the ends of its two lists: `read_step` on the bytes up to fopts_end gives those of
 // FOpts, from place 8 on; on the bytes up to payload_end, of a clear payload, those on port 0, from payload_start on. A frame

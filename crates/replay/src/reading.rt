@@ -11,8 +11,6 @@ use crate::output::put_numbers;
 use crate::output::put_place;
 use crate::output::put_refusal;
 use base::storing::four_at;
-use frame::fctrl::FCtrl;
-use frame::fctrl::is_uplink;
 use frame::join_fields::CfList;
 use frame::join_fields::JoinAcceptFields;
 use frame::join_fields::JoinRequestFields;
@@ -22,6 +20,8 @@ use frame::numbers::Values;
 use frame::numbers::values_of;
 use frame::parser::read;
 use frame::refusals::Refusal;
+use frame_bits::fctrl::FCtrl;
+use frame_bits::fctrl::is_uplink;
 
 fn put_request(fields: JoinRequestFields) {
     let app_eui = fields.app_eui;

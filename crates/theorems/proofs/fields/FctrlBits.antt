@@ -8,7 +8,7 @@ use lib.Dec.{eqb}
 use lib.Bits.{bitOr}
 use Rattle.base.specs.Bytes.{pick}
 use Rattle.base.proofs.Tested.{agree}
-use Rattle.frame.specs.Fctrl.{uplinkOf}
+use Rattle.frame_bits.specs.Fctrl.{uplinkOf}
 
 -- a byte with the bit of value b set: the byte itself where it had it, b more where not
 abbrev withBit : ℕ → ℕ → ℕ

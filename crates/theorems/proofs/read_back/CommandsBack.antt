@@ -3,7 +3,7 @@
 -- Assumes nothing.
 use mathlib.Core.Path.{_≡_, refl, sym, ap, ap₂, _∙_, subst}
 use mathlib.Core.Bool.{Bool, true, false}
-use mathlib.Core.List.{List, [], _∷_, _++_, append-assoc}
+use mathlib.Core.List.{List, [], _++_, append-assoc}
 use Prim.Native.Nat.{ℕ, _+_, _-_, _≤_}
 use native.Mathlib.Omega.{arith}
 use denote.Ref.{now}
@@ -13,7 +13,7 @@ use borrow.Author.Tests.{ne-eqb}
 use Rattle.base.specs.Bytes.{pick, part}
 use Rattle.base.proofs.Cases.{by-order}
 use Rattle.frame.specs.Conditions.{IsData}
-use Rattle.frame.specs.Fctrl.{uplinkOf}
+use Rattle.frame_bits.specs.Fctrl.{uplinkOf}
 use Rattle.frame.specs.Layout.{mtype, fhdrLength, headerEnd, header, payload, payloadStart, payloadEnd, micOf}
 use Rattle.frame.specs.Reading.{portOf, heldBy, payloadOf, dataOf, readOf}
 use Rattle.frame.specs.ReadingNumbers.{onData}
