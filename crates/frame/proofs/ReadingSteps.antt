@@ -9,7 +9,7 @@ use lib.ListN.{length}
 use borrow.Author.Tests.{lt-ltb, le-ltb, le-leb, lt-leb, eq-eqb, ne-eqb}
 use Rattle.frame.specs.Faults as fault
 use Rattle.frame.specs.Layout.{mtype, major, fhdrLength, fport, payloadStart, payloadEnd}
-use Rattle.frame.specs.Reading.{refuse, portOf, payloadOf, dataOf, readJoinRequest, readJoinAccept, readData, readType, readOf}
+use Rattle.frame.specs.Reading.{refuse, portOf, heldBy, payloadOf, dataOf, readJoinRequest, readJoinAccept, readData, readType, readOf}
 use Rattle.frame.specs.declared.parser.FPort.the-variants.{Absent, Port}
 use Rattle.frame.specs.declared.parser.FrmPayload.the-variants.{Nothing, Data as PlainData, MacCommands}
 use Rattle.frame.specs.declared.parser.Reading.the-variants.{JoinRequest, JoinAccept, Data}
@@ -30,6 +30,10 @@ module _ (f : List ℕ) where
   pub payload-none : length f < fhdrLength f + 6 → payloadOf f ≡ Nothing
   unfolding payloadOf
   payload-none h = rw (port-absent h)
+
+  pub payload-held : fhdrLength f + 6 ≤ length f → payloadOf f ≡ heldBy (Port (fport f)) (payloadStart f) (payloadEnd f)
+  unfolding payloadOf
+  payload-held h = rw (port-there h)
 
   pub payload-commands : fhdrLength f + 6 ≤ length f → fport f ≡ 0 → payloadOf f ≡ MacCommands (payloadStart f) (payloadEnd f)
   unfolding payloadOf

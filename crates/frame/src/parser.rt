@@ -4,7 +4,8 @@ ghost use Prim.Native.Nat.{_+_, _*_, _%_, _≤_};
 ghost use lib.ListN.{length};
 ghost use Rattle.frame.specs.Layout.{fhdrLength, hasPort};
 ghost use Rattle.frame.specs.Refusals.{refusal};
-ghost use Rattle.frame.specs.Reading.{portOf, heldBy, readJoinRequest, readJoinAccept, readData, readType, readOf};
+ghost use Rattle.frame.specs.Reading.{portOf, heldBy, payloadOf, readJoinRequest, readJoinAccept, readData, readType, readOf};
+ghost use Rattle.frame.specs.declared.parser.FPort.the-variants.{Port};
 ghost use Rattle.frame.specs.declared.parser.Reading.the-variants.{Refused};
 use crate::packet_length::FCNT_AT;
 use crate::packet_length::FCTRL_AT;
@@ -92,18 +93,25 @@ fn read_port(frame: &[u8], h: usize) -> FPort
 }
 
 // What a port says of the bytes behind it: commands on port 0, data on another (4.3.3).
-fn held_by(port: FPort, start: usize, end: usize) -> FrmPayload
-    ensures { λ r. ⌜ r ≡ heldBy port start end ⌝ }
+fn held_by(port: u8, start: usize, end: usize) -> FrmPayload
+    ensures { λ r. ⌜ r ≡ heldBy (Port port) start end ⌝ }
 {
-    match port {
-        FPort::Absent => FrmPayload::Nothing,
-        FPort::Port(n) => {
-            if n == 0 {
-                return FrmPayload::MacCommands(start, end);
-            }
-            FrmPayload::Data(start, end)
-        }
+    if port == 0 {
+        return FrmPayload::MacCommands(start, end);
     }
+    FrmPayload::Data(start, end)
+}
+
+// The payload, where there is a port.
+fn read_payload(frame: &[u8], h: usize) -> FrmPayload
+    requires { ⌜ h ≡ fhdrLength (now frame) ⌝ }
+    requires { ⌜ 5 + h ≤ length (now frame) ⌝ }
+    ensures { λ r. ⌜ r ≡ payloadOf (now (frame .entry)) ⌝ }
+{
+    if has_port(frame, h) {
+        return held_by(frame[1 + h], h + 2, frame.len() - MIC_LEN);
+    }
+    FrmPayload::Nothing
 }
 
 fn refused(number: u8, place: usize) -> Reading
@@ -144,7 +152,7 @@ fn read_data(frame: &[u8]) -> Reading
         return refused(INVALID_DATA, FCTRL_AT);
     }
     let port = read_port(frame, h);
-    let mic = frame.len() - MIC_LEN;
+    let payload = read_payload(frame, h);
     let fcnt = read_fcnt(frame[FCNT_AT], frame[FCNT_AT + 1]);
     let data = DataFrame {
         mtype: message_type(frame[0]),
@@ -152,8 +160,8 @@ fn read_data(frame: &[u8]) -> Reading
         fcnt: fcnt,
         fopts_end: 1 + h,
         port: port,
-        payload: held_by(port, h + 2, mic),
-        mic: mic,
+        payload: payload,
+        mic: frame.len() - MIC_LEN,
     };
     Reading::Data(data)
 }

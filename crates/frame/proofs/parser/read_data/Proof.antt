@@ -2,7 +2,7 @@
 -- Assumes nothing.
 use mathlib.Core.Path.{sym, _∙_}
 use native.Mathlib.Omega.{arith}
-use Rattle.frame.specs.Reading.{payloadOf, dataOf}
+use Rattle.frame.specs.Reading.{dataOf}
 use Rattle.frame.proofs.ReadingSteps.{data-right, data-wrong}
 use borrow.Author.Needs.{needs}
 use Rattle.frame.proofs.parser.read_data.Statement.{statement}
@@ -12,16 +12,15 @@ returns : tie.Need-returns
 returns c = c .refused .ensures ∙ sym (data-wrong _ (omega arith))
 
 returns-2 : tie.Need-returns-2
-unfolding payloadOf dataOf
+unfolding dataOf
 returns-2 c =
-    let counted = c .before .before .before .before in
-    let ported = counted .before .before .before in
+    let b = c .before .before .before .before .before .before in
     rw (
-      c .before .before .message-type .ensures,
-      counted .read-fcnt .ensures,
-      c .held-by .ensures,
-      ported .read-port .ensures,
-      ported .before .before .fhdr-length .ensures,
+      c .before .message-type .ensures,
+      c .before .before .before .read-fcnt .ensures,
+      b .before .before .before .fhdr-length .ensures,
+      b .before .read-port .ensures,
+      b .read-payload .ensures,
     )
     (sym (data-right _ (omega arith)))
 
@@ -29,6 +28,6 @@ pub read-data-spec : {M : Type 1} → statement M
 read-data-spec =
     tie.close
     (tie.spec (λ c. search needs) (λ c κs. search needs) (λ c. search needs) (λ c κs. search needs) returns (λ c κs. search needs)
-    (λ c. search needs) (λ c. search needs) (λ c. search needs) (λ c. search needs) (λ c κs. search needs)
-    (λ c. search needs) (λ c κs. search needs) (λ c. search needs) (λ c. search needs) (λ c. search needs)
-    (λ c κs. search needs) returns-2)
+    (λ c κs. search needs) (λ c. search needs) (λ c. search needs) (λ c. search needs) (λ c κs. search needs)
+    (λ c. search needs)
+    (λ c κs. search needs) (λ c. search needs) (λ c. search needs) (λ c. search needs) returns-2)
