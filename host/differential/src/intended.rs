@@ -336,21 +336,22 @@ fn place_of_a_refusal() -> Shown {
 /// Port 5 and port 0 with nothing behind them.
 fn port_with_nothing_behind_it() -> Shown {
     let frames = [5, 0].map(|port| [0x40, 0, 0, 0, 0, 0, 0, 0, port, 0, 0, 0, 0]);
+    let reported = |port: Option<u8>, kind: &str, bytes: &[u8]| format!("{port:?}, {kind} of {} bytes", bytes.len());
     let crate_says = frames.map(|mut frame| {
         let Ok(data) = parsed_data::<OpenSsl>(&mut frame) else { return "refused".into() };
         let (port, key) = (data.f_port(), AES128([0; 16]));
         let Ok(open) = data.decrypt(Some(&key), Some(&key), 0) else { return "not opened".into() };
         match open.frm_payload() {
-            FRMPayload::None => format!("{port:?}, no payload"),
-            FRMPayload::Data(part) => format!("{port:?}, data of {} bytes", part.len()),
-            FRMPayload::MACCommands(part) => format!("{port:?}, commands of {} bytes", part.data().len()),
+            FRMPayload::Data(bytes) => reported(port, "data", bytes),
+            FRMPayload::MACCommands(commands) => reported(port, "commands", commands.data()),
+            FRMPayload::None => "no payload".into(),
         }
     });
     let port_says = frames.map(|frame| match port::read(&frame) {
         Ok(port::Reading::Data(data)) => match data.payload() {
-            port::Payload::None => format!("{:?}, no payload", data.port()),
-            port::Payload::Data(part) => format!("{:?}, data of {} bytes", data.port(), part.len()),
-            port::Payload::Commands(part) => format!("{:?}, commands of {} bytes", data.port(), part.len()),
+            port::Payload::Data(bytes) => reported(data.port(), "data", bytes),
+            port::Payload::Commands(bytes) => reported(data.port(), "commands", bytes),
+            port::Payload::None => "no payload".into(),
         },
         other => format!("{other:?}"),
     });

@@ -37,7 +37,9 @@ fn departures() -> Vec<(String, usize, Vec<u8>)> {
     let path = Path::new(env!("CARGO_MANIFEST_DIR")).join("../recorded/departures");
     let text = std::fs::read_to_string(path).unwrap();
     let line = |line: &str| match line.split(' ').collect::<Vec<_>>()[..] {
-        [list, case, "28", due] => (list.into(), case.parse().unwrap(), answers(&format!("{due}\n1 cases\n")).remove(0)),
+        [list, case, "28", due] => {
+            (list.into(), case.parse().unwrap(), answers(&format!("{due}\n1 cases\n")).remove(0))
+        }
         _ => panic!("a line of departures: {line}"),
     };
     text.lines().map(line).collect()

@@ -299,7 +299,11 @@ impl Iterator for Commands<'_> {
             Ok(0) => None,
             Ok(next) => {
                 self.at = next;
-                Some(Command::of(self.direction, &numbers).map(|command| (offset, command)).ok_or(Reason::UnknownCommand.at(offset)))
+                Some(
+                    Command::of(self.direction, &numbers)
+                        .map(|command| (offset, command))
+                        .ok_or(Reason::UnknownCommand.at(offset)),
+                )
             }
             Err(refusal) => {
                 self.at = self.bytes.len();

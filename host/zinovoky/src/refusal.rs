@@ -157,7 +157,9 @@ impl fmt::Display for Refusal {
             (FrameTooLong, 0) => f.write_str("a frame to build of more than 255 bytes"),
             (FrameTooLong, length) => write!(f, "{length} bytes"),
             (InvalidMic, _) => f.write_str("the MIC differs"),
-            (InvalidKey, _) => f.write_str("the key of the payload was not given: the network key if it is empty or on port 0"),
+            (InvalidKey, _) => {
+                f.write_str("the key of the payload was not given: the network key if it is empty or on port 0")
+            }
             (BufferTooShort, _) => f.write_str("no room for the answer"),
             (InvalidChannelList, _) => f.write_str("over five channels, or one above 16,777,215"),
             (MacCommandTooBigForFOpts, _) => f.write_str("commands over 15 bytes that are not for port 0"),
