@@ -145,7 +145,7 @@ cryptedPart-long key f counter start end h inside =
     simp (length-append, crypted-long, length-take, length-drop) (omega arith)
 
 -- a part of no byte
-cryptedPart-nothing : (key f : List ℕ) (counter start end : ℕ) → start ≡ end → cryptedPart key f counter start end ≡ f
+pub cryptedPart-nothing : (key f : List ℕ) (counter start end : ℕ) → start ≡ end → cryptedPart key f counter start end ≡ f
 unfolding cryptedPart
 cryptedPart-nothing key f counter start end e =
     let none : length (part start (end - start) f) ≡ 0 = length-take (end - start) (drop start f) ∙ omega arith in

@@ -17,11 +17,11 @@ use Rattle.frame.specs.declared.parser.FPort.the-variants.{Absent, Port}
 use Rattle.frame_opening.specs.FrameOpening.{Result, result, unopened, openedUnder, dataOpened}
 use Rattle.frame_opening.specs.declared.payload.Opening.the-variants.{Opened}
 
--- the port that the crate reports, and this codec did before: that of a frame with a byte of payload behind it
+-- 4.3.2 the port that the crate reports, and this codec did before: that of a frame with a byte of payload behind it
 abbrev pub crateReports : List ℕ → FPort
 crateReports f = pick (ltb (fhdrLength f + 6) (length f)) (Port (fport f)) Absent
 
--- the key that such a report selects: the network key for port 0 and for none, the application key for every other
+-- 4.3.3 the key that such a report selects: the network key for port 0 and for none, the application key for every other
 abbrev pub selectedBy : {A : Type 0} → FPort → A → A → A
 selectedBy Absent nwk app = nwk
 selectedBy (Port n) nwk app = pick (eqb n 0) nwk app

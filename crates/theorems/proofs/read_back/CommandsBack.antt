@@ -45,6 +45,7 @@ use Rattle.theorems.proofs.read_back.Built.{data-reads-back}
 use Rattle.theorems.proofs.read_back.Opened.{decrypted-header, decrypted-read}
 use Rattle.theorems.proofs.read_back.OpenedParts.{opened-decrypted}
 use Rattle.theorems.proofs.refusals.CommandRefusals.{lists-found}
+use Rattle.theorems.proofs.refusals.FirstDue.{apart}
 
 -- ---- a list that stands at a place of a frame
 
@@ -60,7 +61,7 @@ stands up cs f a e m l z h =
 -- ---- a payload that is no list of commands
 
 -- its list begins and ends at the MIC
-pub record NoList (p : FrmPayload) (mic : ℕ) : Type 0 where
+record NoList (p : FrmPayload) (mic : ℕ) : Type 0 where
   pub none : onPort0 p ≡ false
   pub start : commandsFrom p mic ≡ mic
   pub end : commandsTo p mic ≡ mic
@@ -122,8 +123,7 @@ port-byte f q e =
     by-order (fhdrLength f + 6) (length f) (λ l. l)
     (λ l.
     let none : portOf f ≡ Absent = port-absent f l in
-    let z : _≡_ {A = ℕ} 0 1 = cc in
-    absurd (omega arith))
+    apart (cc))
 
 -- a list between what stands before and after it
 between : (h b m : List ℕ) → part (length h) (length b) (h ++ (b ++ m)) ≡ b

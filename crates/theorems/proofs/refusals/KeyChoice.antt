@@ -3,11 +3,11 @@
 -- Assumes nothing.
 use mathlib.Core.Path.{_≡_, refl, sym, ap, ap₂, _∙_}
 use mathlib.Core.Bool.{Bool, true}
-use mathlib.Core.List.{List, [], _∷_, _++_, append-nil}
-use Prim.Native.Nat.{ℕ, _+_, _-_, _%_, _<_}
+use mathlib.Core.List.{List}
+use Prim.Native.Nat.{ℕ, _+_, _%_, _<_}
 use native.Mathlib.Omega.{arith}
 use lib.Dec.{eqb}
-use lib.ListN.{length, take, drop, take-append-drop}
+use lib.ListN.{length}
 use lib.Seq.{getD-take}
 use borrow.Author.Tests.{lt-ltb, le-ltb, eq-eqb}
 use Rattle.base.specs.Bytes.{pick, at}
@@ -23,15 +23,11 @@ use Rattle.frame.specs.declared.parser.Reading.{Reading}
 use Rattle.frame.specs.declared.parser.Reading.the-variants.{JoinRequest, JoinAccept, Data, Refused}
 use Rattle.frame.proofs.LayoutLaws.{placed, length-payload}
 use Rattle.frame.proofs.ReadingLaws.{reads-data, data-read}
-use Rattle.frame_security.specs.Security.{byNetworkKey, frameKey, crypted, cryptedPart, fullCounter}
-use Rattle.frame_security.proofs.SecurityLaws.{by-port, crypted-long}
+use Rattle.frame_security.specs.Security.{byNetworkKey, frameKey, fullCounter}
+use Rattle.frame_security.proofs.SecurityLaws.{by-port, cryptedPart-nothing}
 use Rattle.frame_opening.specs.FrameOpening.{result, unopened, decrypted, openedUnder, dataOpened}
 use Rattle.frame_opening.specs.declared.payload.Opening.the-variants.{Opened}
 use Rattle.theorems.specs.KeyChoice.{crateReports, selectedBy, openedAsBefore, OpensEmpty}
-
-no-length : (l : List ℕ) → length l ≡ 0 → l ≡ []
-no-length [] e = refl
-no-length (x ∷ l) e = absurd (omega arith)
 
 module _ (f : List ℕ) (h : IsData f) where
   -- the port in the header of a frame that has a payload
@@ -71,13 +67,8 @@ module _ (f : List ℕ) (h : IsData f) where
 
     -- there is nothing to decrypt
     stays : (key : List ℕ) (counter : ℕ) → decrypted key counter f ≡ f
-    unfolding decrypted cryptedPart
-    stays key counter =
-        let c = crypted key f (fullCounter counter (fcnt f)) (payload f) in
-        let gone : c ≡ [] = no-length c (crypted-long key f (fullCounter counter (fcnt f)) (payload f) ∙ none) in
-        ap₂ (λ (l : List ℕ) (n : ℕ). (take (headerEnd f) f ++ l) ++ drop n f) gone no-byte
-        ∙ ap (λ (l : List ℕ). l ++ drop (headerEnd f) f) (append-nil (take (headerEnd f) f))
-        ∙ take-append-drop (headerEnd f) f
+    unfolding decrypted
+    stays key counter = cryptedPart-nothing key f (fullCounter counter (fcnt f)) (headerEnd f) (payloadEnd f) (sym no-byte)
 
     by-network : (nwk app : MaybeKey) (counter : ℕ) → dataOpened nwk app counter f ≡ openedUnder nwk counter f
     unfolding dataOpened
@@ -85,19 +76,18 @@ module _ (f : List ℕ) (h : IsData f) where
         ap (onData (λ d. openedUnder (frameKey f nwk app) counter f) (unopened f)) (reads-data f h)
         ∙ ap (λ (k : MaybeKey). openedUnder k counter f) (by-empty none nwk app)
 
-    pub opens-empty : OpensEmpty f
+    by-given : (nwk app : MaybeKey) (counter : ℕ) {b : Bool} → nwk .given ≡ b
+        → dataOpened nwk app counter f ≡ pick b (result Opened f) (unopened f (refused 6))
     unfolding openedUnder
+    by-given nwk app counter e =
+        by-network nwk app counter
+        ∙ ap₂ (λ (c : Bool) (l : List ℕ). pick c (result Opened l) (unopened f (refused 6))) e (stays (nwk .key) counter)
+
+    pub opens-empty : OpensEmpty f
     opens-empty =
         record {
-          without =
-              λ nwk app counter e.
-              by-network nwk app counter
-              ∙ ap (λ (b : Bool). pick b (result Opened (decrypted (nwk .key) counter f)) (unopened f (refused 6))) e;
-          with-it =
-              λ nwk app counter e.
-              by-network nwk app counter
-              ∙ ap (λ (b : Bool). pick b (result Opened (decrypted (nwk .key) counter f)) (unopened f (refused 6))) e
-              ∙ ap (result Opened) (stays (nwk .key) counter);
+          without = λ nwk app counter e. by-given nwk app counter e;
+          with-it = λ nwk app counter e. by-given nwk app counter e;
         }
 
 -- ---- of any bytes

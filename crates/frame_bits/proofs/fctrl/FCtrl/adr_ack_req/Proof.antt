@@ -1,4 +1,4 @@
--- `frame::fctrl::FCtrl::adr_ack_req` meets its contract. The direction is what the definition picks by.
+-- `frame_bits::fctrl::FCtrl::adr_ack_req` meets its contract. The direction is what the definition picks by.
 -- Assumes nothing.
 use borrow.Author.Needs.{needs}
 use Rattle.frame_bits.proofs.fctrl.FCtrl.adr_ack_req.Statement.{statement}

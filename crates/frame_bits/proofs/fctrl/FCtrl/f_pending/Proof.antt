@@ -1,4 +1,4 @@
--- `frame::fctrl::FCtrl::f_pending` meets its contract. The direction is what the definition picks by.
+-- `frame_bits::fctrl::FCtrl::f_pending` meets its contract. The direction is what the definition picks by.
 -- Assumes nothing.
 use borrow.Author.Needs.{needs}
 use Rattle.frame_bits.proofs.fctrl.FCtrl.f_pending.Statement.{statement}
