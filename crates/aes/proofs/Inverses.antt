@@ -1,15 +1,15 @@
 -- Inverse and affine map are undone as they should be, by a test at each byte. To compute an inverse takes fourteen
 -- products, so the 256 are computed in one test against a list of them, and every other test looks them up there.
 -- Assumes nothing.
-use mathlib.Core.Path.{_≡_, refl, sym, ap, _∙_}
-use mathlib.Core.List.{List, [], _∷_}
-use Prim.Native.Nat.{ℕ, zero, suc, _<_}
-use native.Mathlib.Nat.{not-suc-le-zero, le-of-suc-le-suc}
-use Rattle·base.specs.Bytes.{tab, at}
-use Rattle·base.proofs.Tab.{at-tab}
-use Rattle·base.proofs.Tested.{agree}
-use Rattle·aes·specs.Field.{xtime, mulBits, mul, squares, inverse, fromBits, affine, invAffine, sub, invSub}
-use Rattle·aes·proofs.FieldLaws.{inverse-byte, invAffine-byte}
+use mathlib.Core.Path.{◌≡◌, refl, sym, ap, ◌∙◌}
+use mathlib.Core.List.{List, [], ◌∷◌}
+use Prim.Native.Nat.{ℕ, zero, suc, ◌<◌}
+use native.Mathlib.Nat.{not-suc-le-zero, le_of_suc-le-suc}
+use Rattle.base.specs.Bytes.{tab, at}
+use Rattle.base.proofs.Tab.{at-tab}
+use Rattle.base.proofs.Tested.{agree}
+use Rattle.aes.specs.Field.{xtime, mul_bits, mul, squares, inverse, from_bits, affine, inv_affine, sub, inv_sub}
+use Rattle.aes.proofs.FieldLaws.{inverse_byte, inv_affine_byte}
 
 -- ---- the inverses
 
@@ -18,46 +18,46 @@ abbrev pub inverses : List ℕ
 inverses = 0x00 ∷ 0x01 ∷ 0x8d ∷ 0xf6 ∷ 0xcb ∷ 0x52 ∷ 0x7b ∷ 0xd1 ∷ 0xe8 ∷ 0x4f ∷ 0x29 ∷ 0xc0 ∷ 0xb0 ∷ 0xe1 ∷ 0xe5 ∷ 0xc7 ∷ 0x74 ∷ 0xb4 ∷ 0xaa ∷ 0x4b ∷ 0x99 ∷ 0x2b ∷ 0x60 ∷ 0x5f ∷ 0x58 ∷ 0x3f ∷ 0xfd ∷ 0xcc ∷ 0xff ∷ 0x40 ∷ 0xee ∷ 0xb2 ∷ 0x3a ∷ 0x6e ∷ 0x5a ∷ 0xf1 ∷ 0x55 ∷ 0x4d ∷ 0xa8 ∷ 0xc9 ∷ 0xc1 ∷ 0x0a ∷ 0x98 ∷ 0x15 ∷ 0x30 ∷ 0x44 ∷ 0xa2 ∷ 0xc2 ∷ 0x2c ∷ 0x45 ∷ 0x92 ∷ 0x6c ∷ 0xf3 ∷ 0x39 ∷ 0x66 ∷ 0x42 ∷ 0xf2 ∷ 0x35 ∷ 0x20 ∷ 0x6f ∷ 0x77 ∷ 0xbb ∷ 0x59 ∷ 0x19 ∷ 0x1d ∷ 0xfe ∷ 0x37 ∷ 0x67 ∷ 0x2d ∷ 0x31 ∷ 0xf5 ∷ 0x69 ∷ 0xa7 ∷ 0x64 ∷ 0xab ∷ 0x13 ∷ 0x54 ∷ 0x25 ∷ 0xe9 ∷ 0x09 ∷ 0xed ∷ 0x5c ∷ 0x05 ∷ 0xca ∷ 0x4c ∷ 0x24 ∷ 0x87 ∷ 0xbf ∷ 0x18 ∷ 0x3e ∷ 0x22 ∷ 0xf0 ∷ 0x51 ∷ 0xec ∷ 0x61 ∷ 0x17 ∷ 0x16 ∷ 0x5e ∷ 0xaf ∷ 0xd3 ∷ 0x49 ∷ 0xa6 ∷ 0x36 ∷ 0x43 ∷ 0xf4 ∷ 0x47 ∷ 0x91 ∷ 0xdf ∷ 0x33 ∷ 0x93 ∷ 0x21 ∷ 0x3b ∷ 0x79 ∷ 0xb7 ∷ 0x97 ∷ 0x85 ∷ 0x10 ∷ 0xb5 ∷ 0xba ∷ 0x3c ∷ 0xb6 ∷ 0x70 ∷ 0xd0 ∷ 0x06 ∷ 0xa1 ∷ 0xfa ∷ 0x81 ∷ 0x82 ∷ 0x83 ∷ 0x7e ∷ 0x7f ∷ 0x80 ∷ 0x96 ∷ 0x73 ∷ 0xbe ∷ 0x56 ∷ 0x9b ∷ 0x9e ∷ 0x95 ∷ 0xd9 ∷ 0xf7 ∷ 0x02 ∷ 0xb9 ∷ 0xa4 ∷ 0xde ∷ 0x6a ∷ 0x32 ∷ 0x6d ∷ 0xd8 ∷ 0x8a ∷ 0x84 ∷ 0x72 ∷ 0x2a ∷ 0x14 ∷ 0x9f ∷ 0x88 ∷ 0xf9 ∷ 0xdc ∷ 0x89 ∷ 0x9a ∷ 0xfb ∷ 0x7c ∷ 0x2e ∷ 0xc3 ∷ 0x8f ∷ 0xb8 ∷ 0x65 ∷ 0x48 ∷ 0x26 ∷ 0xc8 ∷ 0x12 ∷ 0x4a ∷ 0xce ∷ 0xe7 ∷ 0xd2 ∷ 0x62 ∷ 0x0c ∷ 0xe0 ∷ 0x1f ∷ 0xef ∷ 0x11 ∷ 0x75 ∷ 0x78 ∷ 0x71 ∷ 0xa5 ∷ 0x8e ∷ 0x76 ∷ 0x3d ∷ 0xbd ∷ 0xbc ∷ 0x86 ∷ 0x57 ∷ 0x0b ∷ 0x28 ∷ 0x2f ∷ 0xa3 ∷ 0xda ∷ 0xd4 ∷ 0xe4 ∷ 0x0f ∷ 0xa9 ∷ 0x27 ∷ 0x53 ∷ 0x04 ∷ 0x1b ∷ 0xfc ∷ 0xac ∷ 0xe6 ∷ 0x7a ∷ 0x07 ∷ 0xae ∷ 0x63 ∷ 0xc5 ∷ 0xdb ∷ 0xe2 ∷ 0xea ∷ 0x94 ∷ 0x8b ∷ 0xc4 ∷ 0xd5 ∷ 0x9d ∷ 0xf8 ∷ 0x90 ∷ 0x6b ∷ 0xb1 ∷ 0x0d ∷ 0xd6 ∷ 0xeb ∷ 0xc6 ∷ 0x0e ∷ 0xcf ∷ 0xad ∷ 0x08 ∷ 0x4e ∷ 0xd7 ∷ 0xe3 ∷ 0x5d ∷ 0x50 ∷ 0x1e ∷ 0xb3 ∷ 0x5b ∷ 0x23 ∷ 0x38 ∷ 0x34 ∷ 0x68 ∷ 0x46 ∷ 0x03 ∷ 0x8c ∷ 0xdd ∷ 0x9c ∷ 0x7d ∷ 0xa0 ∷ 0xcd ∷ 0x1a ∷ 0x41 ∷ 0x1c ∷ []
 
 -- the one test that computes them
-all-inverses : inverses ≡ tab 256 inverse
-unfolding xtime mulBits mul squares inverse
-all-inverses = refl
+all_inverses : inverses ≡ tab 256 inverse
+unfolding xtime mul_bits mul squares inverse
+all_inverses = refl
 
 pub inverse-listed : (b : ℕ) → b < 256 → inverse b ≡ at inverses b
-inverse-listed b h = sym (ap (λ (l : List ℕ). at l b) all-inverses ∙ at-tab 256 inverse b h)
+inverse-listed b h = sym (ap (λ (l : List ℕ). at l b) all_inverses ∙ at-tab 256 inverse b h)
 
 -- ---- what undoes what
 
 -- the inverse of the definition is one: 4.4
 pub inverts : (b : ℕ) → 0 < b → b < 256 → mul b (inverse b) ≡ 1
-unfolding xtime mulBits mul
+unfolding xtime mul_bits mul
 inverts zero h k = absurd (not-suc-le-zero h)
 inverts (suc b) h k =
     ap (mul (suc b)) (inverse-listed (suc b) k)
-    ∙ agree 255 (λ n. mul (suc n) (at inverses (suc n))) (λ n. 1) tt b (le-of-suc-le-suc k)
+    ∙ agree 255 (λ n. mul (suc n) (at inverses (suc n))) (λ n. 1) tt b (le_of_suc-le-suc k)
 
 -- and 0 goes to 0: 5.1.1
-pub inverse-zero : inverse 0 ≡ 0
-unfolding xtime mulBits mul squares inverse
-inverse-zero = refl
+pub inverse_zero : inverse 0 ≡ 0
+unfolding xtime mul_bits mul squares inverse
+inverse_zero = refl
 
-inverse-twice : (b : ℕ) → b < 256 → inverse (inverse b) ≡ b
-inverse-twice b h =
-    inverse-listed (inverse b) (inverse-byte b h)
+inverse_twice : (b : ℕ) → b < 256 → inverse (inverse b) ≡ b
+inverse_twice b h =
+    inverse-listed (inverse b) (inverse_byte b h)
     ∙ ap (at inverses) (inverse-listed b h)
     ∙ agree 256 (λ n. at inverses (at inverses n)) (λ n. n) tt b h
 
-affine-undone : (b : ℕ) → b < 256 → invAffine (affine b) ≡ b
-unfolding fromBits affine invAffine
-affine-undone = agree 256 (λ n. invAffine (affine n)) (λ n. n) tt
+affine_undone : (b : ℕ) → b < 256 → inv_affine (affine b) ≡ b
+unfolding from_bits affine inv_affine
+affine_undone = agree 256 (λ n. inv_affine (affine n)) (λ n. n) tt
 
-affine-restored : (b : ℕ) → b < 256 → affine (invAffine b) ≡ b
-unfolding fromBits affine invAffine
-affine-restored = agree 256 (λ n. affine (invAffine n)) (λ n. n) tt
+affine_restored : (b : ℕ) → b < 256 → affine (inv_affine b) ≡ b
+unfolding from_bits affine inv_affine
+affine_restored = agree 256 (λ n. affine (inv_affine n)) (λ n. n) tt
 
-pub invSub-sub : (b : ℕ) → b < 256 → invSub (sub b) ≡ b
-unfolding sub invSub
-invSub-sub b h = ap inverse (affine-undone (inverse b) (inverse-byte b h)) ∙ inverse-twice b h
+pub inv_sub-sub : (b : ℕ) → b < 256 → inv_sub (sub b) ≡ b
+unfolding sub inv_sub
+inv_sub-sub b h = ap inverse (affine_undone (inverse b) (inverse_byte b h)) ∙ inverse_twice b h
 
-pub sub-invSub : (b : ℕ) → b < 256 → sub (invSub b) ≡ b
-unfolding sub invSub
-sub-invSub b h = ap affine (inverse-twice (invAffine b) (invAffine-byte b)) ∙ affine-restored b h
+pub sub-inv_sub : (b : ℕ) → b < 256 → sub (inv_sub b) ≡ b
+unfolding sub inv_sub
+sub-inv_sub b h = ap affine (inverse_twice (inv_affine b) (inv_affine_byte b)) ∙ affine_restored b h

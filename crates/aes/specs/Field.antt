@@ -2,23 +2,21 @@
 -- A byte stands for a polynomial of degree below 8 whose coefficients are its bits; the sum of two bytes is their
 -- exclusive or (4.1).
 -- Assumes nothing.
-use mathlib.Core.List.{List}
-use Prim.Native.Nat.{ℕ, zero, suc, _+_, _*_, _/_, _%_, _^_}
-use lib.Dec.{ltb, eqb}
-use Rattle·base.specs.Bytes.{pick, tab, _⊕_}
+use Rattle.std.specs.Prelude.{List, ℕ, zero, suc, ◌+◌, ◌*◌, ◌/◌, ◌%◌, ◌^◌, ltb, eqb}
+use Rattle.base.specs.Bytes.{pick, tab, ◌⊕◌}
 
 -- 4.2, XTIMES: b times x, modulo x^8 + x^4 + x^3 + x + 1
 unfoldable pub xtime : ℕ → ℕ
 xtime b = pick (ltb b 128) (b * 2) (b * 2 ⊕ 0x11b)
 
 -- 4.2: the sum of a x^i over those of the n lowest bits i of b that are set
-unfoldable pub mulBits : ℕ → ℕ → ℕ → ℕ
-mulBits zero a b = 0
-mulBits (suc n) a b = pick (eqb (b % 2) 1) a 0 ⊕ mulBits n (xtime a) (b / 2)
+unfoldable pub mul_bits : ℕ → ℕ → ℕ → ℕ
+mul_bits zero a b = 0
+mul_bits (suc n) a b = pick (eqb (b % 2) 1) a 0 ⊕ mul_bits n (xtime a) (b / 2)
 
 -- 4.2: a times b
 unfoldable pub mul : ℕ → ℕ → ℕ
-mul a b = mulBits 8 a b
+mul a b = mul_bits 8 a b
 
 -- b^2 times b^4 times .. times b^(2^n)
 unfoldable pub squares : ℕ → ℕ → ℕ
@@ -34,36 +32,36 @@ abbrev pub bit : ℕ → ℕ → ℕ
 bit b i = b / 2 ^ (i % 8) % 2
 
 -- the number whose n bits are f i, f (i + 1), ..
-unfoldable pub fromBits : ℕ → (ℕ → ℕ) → ℕ → ℕ
-fromBits zero f i = 0
-fromBits (suc n) f i = f i + fromBits n f (suc i) * 2
+unfoldable pub from_bits : ℕ → (ℕ → ℕ) → ℕ → ℕ
+from_bits zero f i = 0
+from_bits (suc n) f i = f i + from_bits n f (suc i) * 2
 
 -- 5.1.1: bit i of what the affine map makes of b; its constant is 01100011, and bits are added modulo 2
-abbrev pub affineBit : ℕ → ℕ → ℕ
-affineBit b i = (bit b i + bit b (i + 4) + bit b (i + 5) + bit b (i + 6) + bit b (i + 7) + bit 0x63 i) % 2
+abbrev pub affine_bit : ℕ → ℕ → ℕ
+affine_bit b i = (bit b i + bit b (i + 4) + bit b (i + 5) + bit b (i + 6) + bit b (i + 7) + bit 0x63 i) % 2
 
 unfoldable pub affine : ℕ → ℕ
-affine b = fromBits 8 (affineBit b) 0
+affine b = from_bits 8 (affine_bit b) 0
 
 -- 5.3.2: the affine map undone
-abbrev pub invAffineBit : ℕ → ℕ → ℕ
-invAffineBit b i = (bit b (i + 2) + bit b (i + 5) + bit b (i + 7) + bit 0x05 i) % 2
+abbrev pub inv_affine_bit : ℕ → ℕ → ℕ
+inv_affine_bit b i = (bit b (i + 2) + bit b (i + 5) + bit b (i + 7) + bit 0x05 i) % 2
 
-unfoldable pub invAffine : ℕ → ℕ
-invAffine b = fromBits 8 (invAffineBit b) 0
+unfoldable pub inv_affine : ℕ → ℕ
+inv_affine b = from_bits 8 (inv_affine_bit b) 0
 
 -- 5.1.1, SBOX: the inverse in the field, then the affine map
 unfoldable pub sub : ℕ → ℕ
 sub b = affine (inverse b)
 
 -- 5.3.2, INVSBOX: the two undone in the other order
-unfoldable pub invSub : ℕ → ℕ
-invSub b = inverse (invAffine b)
+unfoldable pub inv_sub : ℕ → ℕ
+inv_sub b = inverse (inv_affine b)
 
 -- 5.1.1, Table 4: the S-box written out
-unfoldable pub sBox : List ℕ
-sBox = tab 256 sub
+unfoldable pub s_box : List ℕ
+s_box = tab 256 sub
 
 -- 5.3.2, Table 6: the inverse S-box written out
-unfoldable pub invSBox : List ℕ
-invSBox = tab 256 invSub
+unfoldable pub inv_sbox : List ℕ
+inv_sbox = tab 256 inv_sub

@@ -2,10 +2,9 @@
 -- byte in row r and column c stands at r + 4 c (3.4); a schedule is the bytes of its 44 words. Key expansion (5.2) is in
 -- KeyExpansion.antt.
 -- Assumes nothing.
-use mathlib.Core.List.{List}
-use Prim.Native.Nat.{ℕ, zero, suc, _+_, _-_, _*_, _/_, _%_}
-use Rattle·base.specs.Bytes.{tab, at, _⊕_}
-use Rattle·aes·specs.Field.{mul, sub, invSub}
+use Rattle.std.specs.Prelude.{List, ℕ, zero, suc, ◌+◌, ◌-◌, ◌*◌, ◌/◌, ◌%◌}
+use Rattle.base.specs.Bytes.{tab, at, ◌⊕◌}
+use Rattle.aes.specs.Field.{mul, sub, inv_sub}
 
 -- ---- 5.1: the four steps of a round
 
@@ -13,15 +12,15 @@ use Rattle·aes·specs.Field.{mul, sub, invSub}
 unfoldable pub looked : List ℕ → List ℕ → List ℕ
 looked t s = tab 16 (λ i. at t (at s i))
 
-unfoldable pub subBytes : List ℕ → List ℕ
-subBytes s = tab 16 (λ i. sub (at s i))
+unfoldable pub sub_bytes_of : List ℕ → List ℕ
+sub_bytes_of s = tab 16 (λ i. sub (at s i))
 
 -- 5.1.2: where the byte at i comes from: row r is moved by r columns
-abbrev pub shiftedFrom : ℕ → ℕ
-shiftedFrom i = i % 4 + 4 * ((i / 4 + i % 4) % 4)
+abbrev pub shifted_from : ℕ → ℕ
+shifted_from i = i % 4 + 4 * ((i / 4 + i % 4) % 4)
 
-unfoldable pub shiftRows : List ℕ → List ℕ
-shiftRows s = tab 16 (λ i. at s (shiftedFrom i))
+unfoldable pub shift_rows_of : List ℕ → List ℕ
+shift_rows_of s = tab 16 (λ i. at s (shifted_from i))
 
 -- 4.3: a row of the product of a column with the matrix that a0, a1, a2, a3 fix; the rows differ in where the column
 -- begins
@@ -33,24 +32,24 @@ abbrev pub below : ℕ → ℕ → ℕ
 below i k = i / 4 * 4 + (i + k) % 4
 
 -- 4.3: the byte at i with every column multiplied by the matrix of which f gives the first row
-abbrev pub mixedAt : (ℕ → ℕ → ℕ → ℕ → ℕ) → List ℕ → ℕ → ℕ
-mixedAt f s i = f (at s i) (at s (below i 1)) (at s (below i 2)) (at s (below i 3))
+abbrev pub mixed_at : (ℕ → ℕ → ℕ → ℕ → ℕ) → List ℕ → ℕ → ℕ
+mixed_at f s i = f (at s i) (at s (below i 1)) (at s (below i 2)) (at s (below i 3))
 
 -- 5.1.3
-abbrev pub mixRow : ℕ → ℕ → ℕ → ℕ → ℕ
-mixRow = row 0x02 0x01 0x01 0x03
+abbrev pub mix_row : ℕ → ℕ → ℕ → ℕ → ℕ
+mix_row = row 0x02 0x01 0x01 0x03
 
-unfoldable pub mixColumns : List ℕ → List ℕ
-mixColumns s = tab 16 (mixedAt mixRow s)
+unfoldable pub mix_columns_of : List ℕ → List ℕ
+mix_columns_of s = tab 16 (mixed_at mix_row s)
 
 -- 5.1.4: the words 4 r to 4 r + 3 of the schedule w are added
-unfoldable pub addRoundKey : List ℕ → ℕ → List ℕ → List ℕ
-addRoundKey w r s = tab 16 (λ i. at s i ⊕ at w (16 * r + i))
+unfoldable pub add_round_key_of : List ℕ → ℕ → List ℕ → List ℕ
+add_round_key_of w r s = tab 16 (λ i. at s i ⊕ at w (16 * r + i))
 
 -- ---- 5.1: the cipher
 
 unfoldable pub round : List ℕ → ℕ → List ℕ → List ℕ
-round w r s = addRoundKey w r (mixColumns (shiftRows (subBytes s)))
+round w r s = add_round_key_of w r (mix_columns_of (shift_rows_of (sub_bytes_of s)))
 
 -- the rounds 1 to n
 unfoldable pub rounds : List ℕ → ℕ → List ℕ → List ℕ
@@ -59,36 +58,36 @@ rounds w (suc n) s = round w (suc n) (rounds w n s)
 
 -- Algorithm 1: the last round leaves MixColumns out
 unfoldable pub cipher : List ℕ → List ℕ → List ℕ
-cipher w s = addRoundKey w 10 (shiftRows (subBytes (rounds w 9 (addRoundKey w 0 s))))
+cipher w s = add_round_key_of w 10 (shift_rows_of (sub_bytes_of (rounds w 9 (add_round_key_of w 0 s))))
 
 -- ---- 5.3: the inverse cipher
 
 -- 5.3.1: row r is moved by r columns the other way
-abbrev pub shiftedBackFrom : ℕ → ℕ
-shiftedBackFrom i = i % 4 + 4 * ((i / 4 + (4 - i % 4)) % 4)
+abbrev pub shifted_back_from : ℕ → ℕ
+shifted_back_from i = i % 4 + 4 * ((i / 4 + (4 - i % 4)) % 4)
 
-unfoldable pub invShiftRows : List ℕ → List ℕ
-invShiftRows s = tab 16 (λ i. at s (shiftedBackFrom i))
+unfoldable pub inv_shift_rows_of : List ℕ → List ℕ
+inv_shift_rows_of s = tab 16 (λ i. at s (shifted_back_from i))
 
-unfoldable pub invSubBytes : List ℕ → List ℕ
-invSubBytes s = tab 16 (λ i. invSub (at s i))
+unfoldable pub inv_sub_bytes_of : List ℕ → List ℕ
+inv_sub_bytes_of s = tab 16 (λ i. inv_sub (at s i))
 
 -- 5.3.3
-abbrev pub invMixRow : ℕ → ℕ → ℕ → ℕ → ℕ
-invMixRow = row 0x0e 0x09 0x0d 0x0b
+abbrev pub inv_mix_row : ℕ → ℕ → ℕ → ℕ → ℕ
+inv_mix_row = row 0x0e 0x09 0x0d 0x0b
 
-unfoldable pub invMixColumns : List ℕ → List ℕ
-invMixColumns s = tab 16 (mixedAt invMixRow s)
+unfoldable pub inv_mix_columns_of : List ℕ → List ℕ
+inv_mix_columns_of s = tab 16 (mixed_at inv_mix_row s)
 
 -- 5.3.4: AddRoundKey is its own inverse
-unfoldable pub invRound : List ℕ → ℕ → List ℕ → List ℕ
-invRound w r s = invMixColumns (addRoundKey w r (invSubBytes (invShiftRows s)))
+unfoldable pub inv_round : List ℕ → ℕ → List ℕ → List ℕ
+inv_round w r s = inv_mix_columns_of (add_round_key_of w r (inv_sub_bytes_of (inv_shift_rows_of s)))
 
 -- the rounds n down to 1
-unfoldable pub invRounds : List ℕ → ℕ → List ℕ → List ℕ
-invRounds w zero s = s
-invRounds w (suc n) s = invRounds w n (invRound w (suc n) s)
+unfoldable pub inv_rounds : List ℕ → ℕ → List ℕ → List ℕ
+inv_rounds w zero s = s
+inv_rounds w (suc n) s = inv_rounds w n (inv_round w (suc n) s)
 
 -- Algorithm 3
-unfoldable pub invCipher : List ℕ → List ℕ → List ℕ
-invCipher w s = addRoundKey w 0 (invSubBytes (invShiftRows (invRounds w 9 (addRoundKey w 10 s))))
+unfoldable pub inv_cipher : List ℕ → List ℕ → List ℕ
+inv_cipher w s = add_round_key_of w 0 (inv_sub_bytes_of (inv_shift_rows_of (inv_rounds w 9 (add_round_key_of w 10 s))))

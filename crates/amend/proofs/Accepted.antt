@@ -1,71 +1,71 @@
 -- What an accepted opening says of the frame, and which frames opening accepts.
 -- Assumes nothing.
-use mathlib.Core.Path.{_≡_, refl, sym, ap, _∙_}
+use mathlib.Core.Path.{◌≡◌, refl, sym, ap, ◌∙◌}
 use mathlib.Core.Bool.{Bool, true, false}
 use mathlib.Core.List.{List}
-use Prim.Native.Nat.{ℕ, _%_}
+use Prim.Native.Nat.{ℕ, ◌%◌}
 use native.Mathlib.Omega.{arith}
 use lib.Dec.{eqb}
 use borrow.Author.Tests.{eqb-true}
-use Rattle·base.specs.Bytes.{pick}
-use Rattle·frame_security.specs.Mic.{sameBytes}
-use Rattle·frame_security.specs.Sealing.{resealed}
-use Rattle·frame_security.proofs.SealedFrames.{resealed-same}
-use Rattle·frame_security.proofs.MicCompared.{same-of-test, test-of-same}
-use Rattle·frame.specs.Conditions.{IsData}
-use Rattle·frame.specs.Layout.{fcnt, micOf}
-use Rattle·frame.specs.ReadingNumbers.{onData}
-use Rattle·frame.specs.Reading.{readOf}
-use Rattle·frame_security.specs.Security.{covered, dataMic}
-use Rattle·frame.specs.declared.parser.Reading.{Reading}
-use Rattle·frame.specs.declared.parser.Reading.the-variants.{JoinRequest, JoinAccept, Data, Refused}
-use Rattle·frame.proofs.ReadingLaws.{Says, answers, given-number}
-use Rattle·frame.specs.Refusals.{refused}
-use Rattle·amend·specs.declared.opening.Opened.{Opened}
-use Rattle·amend·specs.OpenFrame.{openedOf, refusedOpening, acceptedOpening, openChecked, openData, openOf}
-use Rattle·amend·proofs.OpeningLaws.{open-data, counter-right}
+use Rattle.base.specs.Bytes.{pick}
+use Rattle.frame_security.specs.Mic.{same_bytes}
+use Rattle.frame_security.specs.Sealing.{resealed}
+use Rattle.frame_security.proofs.SealedFrames.{resealed_same}
+use Rattle.frame_security.proofs.MicCompared.{same_of_test, test_of_same}
+use Rattle.frame.specs.Conditions.{IsData}
+use Rattle.frame.specs.Layout.{fcnt, mic_of_of}
+use Rattle.frame.specs.ReadingNumbers.{on_data}
+use Rattle.frame.specs.Reading.{read_of}
+use Rattle.frame_security.specs.Security.{covered, data_mic_of}
+use Rattle.frame.specs.declared.parser.Reading.{Reading}
+use Rattle.frame.specs.declared.parser.Reading.TheVariants.{JoinRequest, JoinAccept, Data, Refused}
+use Rattle.frame.proofs.ReadingLaws.{Says, answers, given-number}
+use Rattle.frame.specs.Refusals.{refused}
+use Rattle.amend.specs.declared.opening.Opened.{Opened}
+use Rattle.amend.specs.OpenFrame.{opened_of, refused_opening, accepted_opening, open_checked_of, open_data, open_of}
+use Rattle.amend.proofs.OpeningLaws.{open_data_lem, counter_right}
 
 -- a data frame whose counter and MIC are right
 pub record Accepted (f nwk : List ℕ) (counter : ℕ) : Type 0 where
-  pub data-frame : IsData f
-  pub low-half : counter % 65536 ≡ fcnt f
-  pub signed : dataMic nwk (covered f) counter ≡ micOf f
+  pub data_frame_lem : IsData f
+  pub low_half : counter % 65536 ≡ fcnt f
+  pub signed : data_mic_of nwk (covered f) counter ≡ mic_of_of f
 
 -- two tests that were both passed
-both-passed : (a b : Bool) (x y z : Opened) → pick a (pick b x y) z .refusal .number ≡ 0 → (y .refusal .number ≡ 0 → ⊥) → (z .refusal .number ≡ 0 → ⊥)
+both_passed : (a b : Bool) (x y z : Opened) → (pick a (pick b x y) z).refusal.number ≡ 0 → (y.refusal.number ≡ 0 → ⊥) → (z.refusal.number ≡ 0 → ⊥)
     → (a ≡ true) × (b ≡ true)
-both-passed true true x y z e hy hz = (refl, refl)
-both-passed true false x y z e hy hz = absurd (hy e)
-both-passed false b x y z e hy hz = absurd (hz e)
+both_passed true true x y z e hy hz = (refl, refl)
+both_passed true false x y z e hy hz = absurd (hy e)
+both_passed false b x y z e hy hz = absurd (hz e)
 
 module _ (f nwk app : List ℕ) (counter : ℕ) where
-  pub accepted-opens : Accepted f nwk counter → openOf f nwk app counter ≡ acceptedOpening (openedOf f nwk app counter)
-  unfolding openChecked
-  accepted-opens a =
-      open-data f nwk app counter (a .data-frame)
-      ∙ counter-right f nwk app counter (a .low-half)
-      ∙ ap (λ (t : Bool). pick t (acceptedOpening (openedOf f nwk app counter)) (refusedOpening (refused 5)))
-      (resealed-same f nwk app counter ∙ test-of-same (dataMic nwk (covered f) counter) (micOf f) (a .signed))
+  pub accepted_opens : Accepted f nwk counter → open_of f nwk app counter ≡ accepted_opening (opened_of f nwk app counter)
+  unfolding open_checked_of
+  accepted_opens a =
+      open_data_lem f nwk app counter a.data_frame_lem
+      ∙ counter_right f nwk app counter a.low_half
+      ∙ ap (λ (t : Bool). pick t (accepted_opening (opened_of f nwk app counter)) (refused_opening (refused 5)))
+      (resealed_same f nwk app counter ∙ test_of_same (data_mic_of nwk (covered f) counter) (mic_of_of f) a.signed)
 
-  data-passed : IsData f → openData f nwk app counter .refusal .number ≡ 0 → Accepted f nwk counter
-  unfolding openData openChecked
-  data-passed h e =
-      let passed = both-passed (eqb (counter % 65536) (fcnt f)) (sameBytes (resealed f nwk app counter) f)
-      (acceptedOpening (openedOf f nwk app counter)) (refusedOpening (refused 5)) (refusedOpening (refused 14)) e
+  data_passed : IsData f → (open_data f nwk app counter).refusal.number ≡ 0 → Accepted f nwk counter
+  unfolding open_data open_checked_of
+  data_passed h e =
+      let passed = both_passed (eqb (counter % 65536) (fcnt f)) (same_bytes (resealed f nwk app counter) f)
+      (accepted_opening (opened_of f nwk app counter)) (refused_opening (refused 5)) (refused_opening (refused 14)) e
       (λ q. omega arith) (λ q. omega arith) in
       record {
-        data-frame = h;
-        low-half = eqb-true (counter % 65536) (fcnt f) (passed .0);
-        signed = same-of-test (dataMic nwk (covered f) counter) (micOf f) (sym (resealed-same f nwk app counter) ∙ passed .1);
+        data_frame_lem = h;
+        low_half = eqb-true (counter % 65536) (fcnt f) passed.0;
+        signed = same_of_test (data_mic_of nwk (covered f) counter) (mic_of_of f) (sym (resealed_same f nwk app counter) ∙ passed.1);
       }
 
-  by-reading : (r : Reading) → Says f r → onData (λ d. openData f nwk app counter) refusedOpening r .refusal .number ≡ 0
+  by_reading : (r : Reading) → Says f r → (on_data (λ d. open_data f nwk app counter) refused_opening r).refusal.number ≡ 0
       → Accepted f nwk counter
-  by-reading JoinRequest s e = let none : ⊥ = omega arith in absurd none
-  by-reading (JoinAccept n) s e = let none : ⊥ = omega arith in absurd none
-  by-reading (Data d) s e = data-passed (s .0) e
-  by-reading (Refused r) s e = absurd (omega (arith, given-number f r s, e))
+  by_reading JoinRequest s e = let none : ⊥ = omega arith in absurd none
+  by_reading (JoinAccept n) s e = let none : ⊥ = omega arith in absurd none
+  by_reading (Data d) s e = data_passed s.0 e
+  by_reading (Refused r) s e = absurd (omega (arith, given-number f r s, e))
 
-  pub opens-accepted : openOf f nwk app counter .refusal .number ≡ 0 → Accepted f nwk counter
-  unfolding openOf
-  opens-accepted e = by-reading (readOf f) (answers f) e
+  pub opens_accepted : (open_of f nwk app counter).refusal.number ≡ 0 → Accepted f nwk counter
+  unfolding open_of
+  opens_accepted e = by_reading (read_of f) (answers f) e

@@ -1,197 +1,197 @@
 -- Amending an opened frame gives the opened state of the frame that is sealed anew: the byte that is stored is the one
 -- that encrypting the changed payload has there, and so what is covered is that frame's, and with it chain values and MIC.
 -- Assumes nothing.
-use mathlib.Core.Path.{_≡_, refl, sym, ap, ap₂, _∙_}
+use mathlib.Core.Path.{◌≡◌, refl, sym, ap, ap₂, ◌∙◌}
 use mathlib.Core.Bool.{Bool, true, false}
-use mathlib.Core.List.{List, [], _∷_, _++_}
-use Prim.Native.Nat.{ℕ, _+_, _-_, _%_, _≤_, _<_}
+use mathlib.Core.List.{List, [], ◌∷◌, ◌++◌}
+use Prim.Native.Nat.{ℕ, ◌+◌, ◌-◌, ◌%◌, ◌≤◌, ◌<◌}
 use native.Mathlib.Nat.{suc-add, zero-add}
 use native.Mathlib.Omega.{arith}
-use lib.ListN.{length, take, drop, set, replicate, length-append, length-replicate, length-set, take-append-drop, List·getD-append}
-use lib.Seq.{drop-at, take-take, take-append-le, take-set-lt, getD-take}
-use Rattle·base.specs.Bytes.{pick, at, _⊕_}
-use Rattle·aes.specs.KeyExpansion.{keyExpansion}
-use Rattle·frame.specs.Conditions.{IsData}
-use Rattle·frame.specs.Layout.{fport, fhdrLength, payloadStart, headerEnd, header, payload}
-use Rattle·frame_security.specs.Sealing.{sealed, clearOf}
-use Rattle·frame_security.specs.Security.{streamAt, covered, message, dataMic, frameKey, byNetworkKey}
-use Rattle·frame.proofs.LayoutLaws.{placed, length-header, length-payload, before-mic}
-use Rattle·frame_security.proofs.SecurityLaws.{by-same, streamAt-same, crypted-twice, crypted-set}
-use Rattle·amend·specs.Amending.{openState, encryptedByte, payloadLength, lastPlace, carried, resigned, amendedTo, schedule}
-use Rattle·amend·specs.OpenFrame.{held, chainsOf, openedOf}
-use Rattle·amend·proofs.Accepted.{Accepted}
-use Rattle·amend·proofs.Carrying.{carried-message, resigned-message}
-use Rattle·frame_security.proofs.SealedFrames.{clear-long, sealed-long, sealed-covered}
-use Rattle·amend·proofs.Sealed.{sealed-accepted}
-use Rattle·amend·proofs.Within.{length-within, amended-is}
+use lib.ListN.{length, take, drop, set, replicate, length-append, length-replicate, length-set, take-append-drop, get_or-append}
+use lib.Seq.{drop_at, take-take, take-append-le, take-set-lt, get_or-take}
+use Rattle.base.specs.Bytes.{pick, at, ◌⊕◌}
+use Rattle.aes.specs.KeyExpansion.{key_expansion_of}
+use Rattle.frame.specs.Conditions.{IsData}
+use Rattle.frame.specs.Layout.{fport, fhdr_length_of, payload_start_of, header_end_of, header, payload}
+use Rattle.frame_security.specs.Sealing.{sealed, clear_of}
+use Rattle.frame_security.specs.Security.{stream_at, covered, message, data_mic_of, frame_key, by_network_key_of}
+use Rattle.frame.proofs.LayoutLaws.{placed, length-header, length-payload, before_mic}
+use Rattle.frame_security.proofs.SecurityLaws.{by_same, stream_at_same, crypted_twice, crypted-set}
+use Rattle.amend.specs.Amending.{open_state, encrypted_byte, payload_length_of, last_place, carried, resigned, amended_to, schedule}
+use Rattle.amend.specs.OpenFrame.{held, chains_of_of, opened_of}
+use Rattle.amend.proofs.Accepted.{Accepted}
+use Rattle.amend.proofs.Carrying.{carried-message, resigned-message}
+use Rattle.frame_security.proofs.SealedFrames.{clear_long, sealed_long, sealed-covered}
+use Rattle.amend.proofs.Sealed.{sealed-accepted}
+use Rattle.amend.proofs.Within.{length-within, amended_is}
 
 -- a byte changed behind a front
-set-behind : (s t : List ℕ) (k v : ℕ) → set (s ++ t) (length s + k) v ≡ s ++ set t k v
-set-behind [] t k v = ap (λ (n : ℕ). set t n v) (zero-add k)
-set-behind (a ∷ s) t k v =
+set_behind : (s t : List ℕ) (k v : ℕ) → set (s ++ t) (length s + k) v ≡ s ++ set t k v
+set_behind [] t k v = ap (λ (n : ℕ). set t n v) (zero-add k)
+set_behind (a ∷ s) t k v =
     ap (λ (n : ℕ). set (a ∷ (s ++ t)) n v) (suc-add (length s) k)
-    ∙ ap (λ (l : List ℕ). a ∷ l) (set-behind s t k v)
+    ∙ ap (λ (l : List ℕ). a ∷ l) (set_behind s t k v)
 
 -- the schedule of the key that a test selects
-pick-key : (t : Bool) (a b : List ℕ) → pick t (keyExpansion a) (keyExpansion b) ≡ keyExpansion (pick t a b)
-pick-key true a b = refl
-pick-key false a b = refl
+pick_key : (t : Bool) (a b : List ℕ) → pick t (key_expansion_of a) (key_expansion_of b) ≡ key_expansion_of (pick t a b)
+pick_key true a b = refl
+pick_key false a b = refl
 
 -- ---- the frame as a state holds it
 
 module _ (f : List ℕ) (most : length f ≤ 255) where
-  pub held-long : length (held f) ≡ 255
+  pub held_long : length (held f) ≡ 255
   unfolding held
-  held-long =
+  held_long =
       length-append f (replicate {A = ℕ} (255 - length f) 0)
       ∙ (omega (arith, length-replicate {A = ℕ} (255 - length f) 0))
 
-  pub held-at : (i : ℕ) → i < length f → at (held f) i ≡ at f i
+  pub held_at : (i : ℕ) → i < length f → at (held f) i ≡ at f i
   unfolding held
-  held-at i h = List·getD-append f (replicate {A = ℕ} (255 - length f) 0) 0 i h
+  held_at i h = get_or-append f (replicate {A = ℕ} (255 - length f) 0) 0 i h
 
   pub held-take : (n : ℕ) → n ≤ length f → take n (held f) ≡ take n f
   unfolding held
   held-take n h = take-append-le n f (replicate {A = ℕ} (255 - length f) 0) h
 
-  held-rest : (n : ℕ) → length f ≡ n → drop n (held f) ≡ replicate {A = ℕ} (255 - length f) 0
+  held_rest : (n : ℕ) → length f ≡ n → drop n (held f) ≡ replicate {A = ℕ} (255 - length f) 0
   unfolding held
-  held-rest n e = drop-at f (replicate {A = ℕ} (255 - length f) 0) n e
+  held_rest n e = drop_at f (replicate {A = ℕ} (255 - length f) 0) n e
 
 module _ (f nwk app : List ℕ) (counter : ℕ) (h : IsData f) where
-  held-start : payloadStart (held f) ≡ payloadStart f
-  held-start = ap (λ (b : ℕ). 7 + b % 16 + 2) (held-at f (h .most) 5 (omega (arith, h .least)))
+  held_start : payload_start_of (held f) ≡ payload_start_of f
+  held_start = ap (λ (b : ℕ). 7 + b % 16 + 2) (held_at f h.most 5 (omega (arith, h.least)))
 
   -- as many bytes may be amended as the payload has
-  pub payload-count : payloadLength (openedOf f nwk app counter) ≡ length (payload f)
-  unfolding openedOf
-  payload-count =
-      length-within (openedOf f nwk app counter) (h .most)
-      ∙ ap (λ (n : ℕ). length f - 4 - n) held-start
+  pub payload_count : payload_length_of (opened_of f nwk app counter) ≡ length (payload f)
+  unfolding opened_of
+  payload_count =
+      length-within (opened_of f nwk app counter) h.most
+      ∙ ap (λ (n : ℕ). length f - 4 - n) held_start
       ∙ omega (arith, length-payload f)
 
 module _ (f nwk app : List ℕ) (counter k v : ℕ) (a : Accepted f nwk counter) (inside : k < length (payload f)) where
   h : IsData f
-  h = a .data-frame
+  h = a.data_frame_lem
 
   abbrev key : List ℕ
-  key = frameKey f nwk app
+  key = frame_key f nwk app
 
   abbrev place : ℕ
-  place = headerEnd f + k
+  place = header_end_of f + k
 
   abbrev byte : ℕ
-  byte = v ⊕ streamAt (keyExpansion key) (header f) counter k
+  byte = v ⊕ stream_at (key_expansion_of key) (header f) counter k
 
   abbrev g : List ℕ
-  g = sealed nwk app counter (header f) (set (clearOf f nwk app counter) k v)
+  g = sealed nwk app counter (header f) (set (clear_of f nwk app counter) k v)
 
-  same-length : length (set (clearOf f nwk app counter) k v) ≡ length (payload f)
-  same-length = length-set (clearOf f nwk app counter) k v ∙ clear-long f nwk app counter
+  same_length : length (set (clear_of f nwk app counter) k v) ≡ length (payload f)
+  same_length = length-set (clear_of f nwk app counter) k v ∙ clear_long f nwk app counter
 
-  start-is : headerEnd f ≡ payloadStart f
-  start-is = omega (arith, length-payload f)
+  start_is : header_end_of f ≡ payload_start_of f
+  start_is = omega (arith, length-payload f)
 
-  place-is : place ≡ payloadStart (held f) + k
-  place-is = ap (λ (n : ℕ). n + k) (start-is ∙ sym (held-start f nwk app counter h))
+  place_is : place ≡ payload_start_of (held f) + k
+  place_is = ap (λ (n : ℕ). n + k) (start_is ∙ sym (held_start f nwk app counter h))
 
-  header-at : (i : ℕ) → i < headerEnd f → at (held f) i ≡ at (header f) i
-  header-at i l =
-      held-at f (h .most) i (omega (arith, placed f h .payload, placed f h .mic))
-      ∙ sym (getD-take (headerEnd f) f i 0 l)
+  header_at : (i : ℕ) → i < header_end_of f → at (held f) i ≡ at (header f) i
+  header_at i l =
+      held_at f h.most i (omega (arith, (placed f h).payload, (placed f h).mic))
+      ∙ sym (get_or-take (header_end_of f) f i 0 l)
 
-  port-is : fport (held f) ≡ fport (header f)
-  port-is =
-      let five = header-at 5 (omega (arith, placed f h .fixed, placed f h .fopts)) in
-      let five′ = held-at f (h .most) 5 (omega (arith, h .least)) in
-      header-at (1 + fhdrLength (held f)) (omega (arith, start-is, five′))
+  port_is : fport (held f) ≡ fport (header f)
+  port_is =
+      let five = header_at 5 (omega (arith, (placed f h).fixed, (placed f h).fopts)) in
+      let five' = held_at f h.most 5 (omega (arith, h.least)) in
+      header_at (1 + fhdr_length_of (held f)) (omega (arith, start_is, five'))
       ∙ ap (λ (b : ℕ). at (header f) (1 + (7 + b % 16))) five
 
-  front-is : take 5 (held f) ≡ take 5 (header f)
-  front-is =
-      held-take f (h .most) 5 (omega (arith, h .least))
-      ∙ sym (take-take 5 (headerEnd f) f (omega (arith, placed f h .fixed, placed f h .fopts)))
+  front_is : take 5 (held f) ≡ take 5 (header f)
+  front_is =
+      held-take f h.most 5 (omega (arith, h.least))
+      ∙ sym (take-take 5 (header_end_of f) f (omega (arith, (placed f h).fixed, (placed f h).fopts)))
 
-  byte-is : byte ≡ encryptedByte (openedOf f nwk app counter) k v
-  unfolding openedOf
-  byte-is =
-      let chosen : byNetworkKey (held f) (payloadLength (openedOf f nwk app counter)) ≡ byNetworkKey (header f) (length (payload f)) =
-      ap (byNetworkKey (held f)) (payload-count f nwk app counter h)
-      ∙ by-same (held f) (header f) (length (payload f)) port-is in
-      let ks : schedule (openedOf f nwk app counter) ≡ keyExpansion key =
-      ap (λ (b : Bool). pick b (keyExpansion nwk) (keyExpansion app)) chosen
-      ∙ pick-key (byNetworkKey (header f) (length (payload f))) nwk app in
+  byte_is : byte ≡ encrypted_byte (opened_of f nwk app counter) k v
+  unfolding opened_of
+  byte_is =
+      let chosen : by_network_key_of (held f) (payload_length_of (opened_of f nwk app counter)) ≡ by_network_key_of (header f) (length (payload f)) =
+      ap (by_network_key_of (held f)) (payload_count f nwk app counter h)
+      ∙ by_same (held f) (header f) (length (payload f)) port_is in
+      let ks : schedule (opened_of f nwk app counter) ≡ key_expansion_of key =
+      ap (λ (b : Bool). pick b (key_expansion_of nwk) (key_expansion_of app)) chosen
+      ∙ pick_key (by_network_key_of (header f) (length (payload f))) nwk app in
       sym
-      (ap (λ (w : List ℕ). v ⊕ streamAt w (held f) counter k) ks
-      ∙ ap (λ (n : ℕ). v ⊕ n) (streamAt-same (held f) (header f) front-is (keyExpansion key) counter k))
+      (ap (λ (w : List ℕ). v ⊕ stream_at w (held f) counter k) ks
+      ∙ ap (λ (n : ℕ). v ⊕ n) (stream_at_same (held f) (header f) front_is (key_expansion_of key) counter k))
 
   covered-held : take (length f - 4) (held f) ≡ covered f
-  covered-held = held-take f (h .most) (length f - 4) (omega arith)
+  covered-held = held-take f h.most (length f - 4) (omega arith)
 
   -- what is covered after the change
-  covered-is : take (length f - 4) (set (held f) place byte) ≡ covered g
-  covered-is =
-      let clear = clearOf f nwk app counter in
-      let there : headerEnd f + k ≡ length (header f) + k = ap (λ (n : ℕ). n + k) (sym (length-header f)) in
-      take-set-lt (length f - 4) (held f) place byte (omega (arith, length-payload f, placed f h .payload))
-      ∙ ap (λ (l : List ℕ). set l place byte) (covered-held ∙ sym (before-mic f))
+  covered_is : take (length f - 4) (set (held f) place byte) ≡ covered g
+  covered_is =
+      let clear = clear_of f nwk app counter in
+      let there : header_end_of f + k ≡ length (header f) + k = ap (λ (n : ℕ). n + k) (sym (length-header f)) in
+      take-set-lt (length f - 4) (held f) place byte (omega (arith, length-payload f, (placed f h).payload))
+      ∙ ap (λ (l : List ℕ). set l place byte) (covered-held ∙ sym (before_mic f))
       ∙ ap (λ (n : ℕ). set (header f ++ payload f) n byte) there
-      ∙ set-behind (header f) (payload f) k byte
-      ∙ ap (λ (l : List ℕ). header f ++ set l k byte) (sym (crypted-twice key (header f) counter (payload f)))
+      ∙ set_behind (header f) (payload f) k byte
+      ∙ ap (λ (l : List ℕ). header f ++ set l k byte) (sym (crypted_twice key (header f) counter (payload f)))
       ∙ ap (λ (l : List ℕ). header f ++ l)
-      (sym (crypted-set key (header f) counter clear k v (omega (arith, clear-long f nwk app counter))))
-      ∙ sym (sealed-covered f nwk app counter h (set clear k v) same-length)
+      (sym (crypted-set key (header f) counter clear k v (omega (arith, clear_long f nwk app counter))))
+      ∙ sym (sealed-covered f nwk app counter h (set clear k v) same_length)
 
   pub again : Accepted g nwk counter
-  again = sealed-accepted f nwk app counter h (set (clearOf f nwk app counter) k v) same-length (a .low-half)
+  again = sealed-accepted f nwk app counter h (set (clear_of f nwk app counter) k v) same_length a.low_half
 
-  long-is : length g ≡ length f
-  long-is = sealed-long f nwk app counter h (set (clearOf f nwk app counter) k v) same-length
+  long_is : length g ≡ length f
+  long_is = sealed_long f nwk app counter h (set (clear_of f nwk app counter) k v) same_length
 
-  in-front : 5 ≤ place
-  in-front = omega (arith, placed f h .fixed, placed f h .fopts)
+  in_front : 5 ≤ place
+  in_front = omega (arith, (placed f h).fixed, (placed f h).fopts)
 
   below : place < length f - 4
-  below = omega (arith, length-payload f, placed f h .payload)
+  below = omega (arith, length-payload f, (placed f h).payload)
 
-  chains-are : carried (keyExpansion nwk) (set (held f) place byte) (length f - 4) place
-      (chainsOf (keyExpansion nwk) (message (covered f) counter) (lastPlace (length f - 4)))
-      ≡ chainsOf (keyExpansion nwk) (message (covered g) counter) (lastPlace (length f - 4))
-  chains-are =
+  chains_are : carried (key_expansion_of nwk) (set (held f) place byte) (length f - 4) place
+      (chains_of_of (key_expansion_of nwk) (message (covered f) counter) (last_place (length f - 4)))
+      ≡ chains_of_of (key_expansion_of nwk) (message (covered g) counter) (last_place (length f - 4))
+  chains_are =
       let n = length f - 4 in
-      let ks = keyExpansion nwk in
-      ap (λ (m : List ℕ). carried ks (set (held f) place byte) n place (chainsOf ks (message m counter) (lastPlace n))) (sym covered-held)
-      ∙ carried-message (held f) counter n place byte in-front below (omega (arith, h .most)) (omega (arith, held-long f (h .most), h .most)) ks
-      ∙ ap (λ (m : List ℕ). chainsOf ks (message m counter) (lastPlace n)) covered-is
+      let ks = key_expansion_of nwk in
+      ap (λ (m : List ℕ). carried ks (set (held f) place byte) n place (chains_of_of ks (message m counter) (last_place n))) (sym covered-held)
+      ∙ carried-message (held f) counter n place byte in_front below (omega (arith, h.most)) (omega (arith, held_long f h.most, h.most)) ks
+      ∙ ap (λ (m : List ℕ). chains_of_of ks (message m counter) (last_place n)) covered_is
 
-  frame-is : resigned (keyExpansion nwk) (set (held f) place byte) (length f - 4) place
-      (chainsOf (keyExpansion nwk) (message (covered f) counter) (lastPlace (length f - 4)))
+  frame_is : resigned (key_expansion_of nwk) (set (held f) place byte) (length f - 4) place
+      (chains_of_of (key_expansion_of nwk) (message (covered f) counter) (last_place (length f - 4)))
       ≡ held g
   unfolding held
-  frame-is =
+  frame_is =
       let n = length f - 4 in
-      let ks = keyExpansion nwk in
-      let room : length f - 4 + 4 ≡ length f = omega (arith, h .least) in
-      let whole : covered g ++ dataMic nwk (covered g) counter ≡ g =
-      ap (λ (m : List ℕ). covered g ++ m) (again .signed) ∙ take-append-drop (length g - 4) g in
+      let ks = key_expansion_of nwk in
+      let room : length f - 4 + 4 ≡ length f = omega (arith, h.least) in
+      let whole : covered g ++ data_mic_of nwk (covered g) counter ≡ g =
+      ap (λ (m : List ℕ). covered g ++ m) again.signed ∙ take-append-drop (length g - 4) g in
       let rest : drop (n + 4) (held f) ≡ replicate {A = ℕ} (255 - length g) 0 =
-      held-rest f (h .most) (n + 4) (sym room) ∙ ap (λ (l : ℕ). replicate {A = ℕ} (255 - l) 0) (sym long-is) in
-      ap (λ (m : List ℕ). resigned ks (set (held f) place byte) n place (chainsOf ks (message m counter) (lastPlace n))) (sym covered-held)
-      ∙ resigned-message (held f) counter n place byte in-front below (omega (arith, h .most)) (omega (arith, held-long f (h .most), h .most)) nwk
-      (omega (arith, held-long f (h .most), h .most, room))
-      ∙ ap₂ (λ (m r : List ℕ). m ++ dataMic nwk m counter ++ r) covered-is rest
+      held_rest f h.most (n + 4) (sym room) ∙ ap (λ (l : ℕ). replicate {A = ℕ} (255 - l) 0) (sym long_is) in
+      ap (λ (m : List ℕ). resigned ks (set (held f) place byte) n place (chains_of_of ks (message m counter) (last_place n))) (sym covered-held)
+      ∙ resigned-message (held f) counter n place byte in_front below (omega (arith, h.most)) (omega (arith, held_long f h.most, h.most)) nwk
+      (omega (arith, held_long f h.most, h.most, room))
+      ∙ ap₂ (λ (m r : List ℕ). m ++ data_mic_of nwk m counter ++ r) covered_is rest
       ∙ ap (λ (l : List ℕ). l ++ replicate {A = ℕ} (255 - length g) 0) whole
 
-  pub amended-opened : amendedTo (openedOf f nwk app counter) k v ≡ openedOf g nwk app counter
-  unfolding openedOf
-  amended-opened =
-      sym (amended-is (openedOf f nwk app counter) k v place byte place-is byte-is refl refl)
+  pub amended_opened : amended_to (opened_of f nwk app counter) k v ≡ opened_of g nwk app counter
+  unfolding opened_of
+  amended_opened =
+      sym (amended_is (opened_of f nwk app counter) k v place byte place_is byte_is refl refl)
       ∙ ap₂
-      (λ (x y : List ℕ). openState x (length f) (keyExpansion nwk) (keyExpansion app) counter y)
-      frame-is
-      chains-are
+      (λ (x y : List ℕ). open_state x (length f) (key_expansion_of nwk) (key_expansion_of app) counter y)
+      frame_is
+      chains_are
       ∙ ap
       (λ (n : ℕ).
-      openState (held g) n (keyExpansion nwk) (keyExpansion app) counter
-      (chainsOf (keyExpansion nwk) (message (covered g) counter) (lastPlace (n - 4))))
-      (sym long-is)
+      open_state (held g) n (key_expansion_of nwk) (key_expansion_of app) counter
+      (chains_of_of (key_expansion_of nwk) (message (covered g) counter) (last_place (n - 4))))
+      (sym long_is)

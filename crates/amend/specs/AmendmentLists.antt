@@ -1,20 +1,16 @@
--- Lists of amendments. `amendedBy` goes on past a refused amendment, which changes nothing; the call that takes a
+-- Lists of amendments. `amended_by` goes on past a refused amendment, which changes nothing; the call that takes a
 -- frame and a whole list stops at the first refusal, and then changes nothing at all (docs/RULES.md, Amendments).
 -- Assumes nothing.
-use mathlib.Core.Path.{_≡_}
-use mathlib.Core.List.{List, [], _∷_}
-use Prim.Native.Nat.{ℕ, _/_, _%_}
-use lib.Dec.{ltb, eqb}
-use lib.ListN.{length, take, set}
-use Rattle·base.specs.Bytes.{pick}
-use Rattle·frame.specs.Layout.{header}
-use Rattle·amend·specs.declared.amending.Open.{Open}
-use Rattle·amend·specs.declared.amending.Amended.{Amended}
-use Rattle·frame.specs.Refusals.{notRefused}
-use Rattle·frame.specs.declared.refusals.Refusal.{Refusal}
-use Rattle·amend·specs.Amending.{amendOf}
-use Rattle·frame_security.specs.Sealing.{sealed, clearOf}
-use Rattle·amend·specs.OpenFrame.{acceptedOpening, openOf}
+use Rattle.std.specs.Prelude.{◌≡◌, List, [], ◌∷◌, ℕ, ◌/◌, ◌%◌, ltb, eqb, length, take, set}
+use Rattle.base.specs.Bytes.{pick}
+use Rattle.frame.specs.Layout.{header}
+use Rattle.amend.specs.declared.amending.Open.{Open}
+use Rattle.amend.specs.declared.amending.Amended.{Amended}
+use Rattle.frame.specs.Refusals.{not_refused}
+use Rattle.frame.specs.declared.refusals.Refusal.{Refusal}
+use Rattle.amend.specs.Amending.{amend_of}
+use Rattle.frame_security.specs.Sealing.{sealed, clear_of}
+use Rattle.amend.specs.OpenFrame.{accepted_opening, open_of}
 
 -- an amendment: a payload offset and the clear value there
 pub record Amendment : Type 0 where
@@ -22,42 +18,42 @@ pub record Amendment : Type 0 where
   pub value : ℕ
 
 -- the state after a list of amendments, refused ones among them
-unfoldable pub amendedBy : Open → List Amendment → Open
-amendedBy s [] = s
-amendedBy s (a ∷ list) = amendedBy (amendOf s (a .offset) (a .value) .state) list
+unfoldable pub amended_by : Open → List Amendment → Open
+amended_by s [] = s
+amended_by s (a ∷ list) = amended_by (amend_of s a.offset a.value).state list
 
 -- a clear payload after the amendments of a list that name a byte of it
-unfoldable pub payloadBy : List ℕ → List Amendment → List ℕ
-payloadBy p [] = p
-payloadBy p (a ∷ list) = payloadBy (pick (ltb (a .offset) (length p)) (set p (a .offset) (a .value)) p) list
+unfoldable pub payload_by : List ℕ → List Amendment → List ℕ
+payload_by p [] = p
+payload_by p (a ∷ list) = payload_by (pick (ltb a.offset (length p)) (set p a.offset a.value) p) list
 
 -- a number as an amendment: offset * 256 + value
 abbrev pub decoded : ℕ → Amendment
 decoded e = record { offset = e / 256; value = e % 256 }
 
-unfoldable pub decodedAll : List ℕ → List Amendment
-decodedAll [] = []
-decodedAll (e ∷ es) = decoded e ∷ decodedAll es
+unfoldable pub decoded_all : List ℕ → List Amendment
+decoded_all [] = []
+decoded_all (e ∷ es) = decoded e ∷ decoded_all es
 
 -- the first refusal, or the state after the whole list
-unfoldable pub amendAll : Open → List ℕ → Amended
-amendAll s [] = record { refusal = notRefused; state = s }
-amendAll s (e ∷ es) =
-    let a = amendOf s (e / 256) (e % 256) in
-    pick (eqb (a .refusal .number) 0) (amendAll (a .state) es) a
+unfoldable pub amend_all_of : Open → List ℕ → Amended
+amend_all_of s [] = record { refusal = not_refused; state = s }
+amend_all_of s (e ∷ es) =
+    let a = amend_of s (e / 256) (e % 256) in
+    pick (eqb a.refusal.number 0) (amend_all_of a.state es) a
 
 -- the opening's refusal, or that of the first refused amendment, or none
-unfoldable pub amendFrameOf : List ℕ → List ℕ → List ℕ → ℕ → List ℕ → Refusal
-amendFrameOf f nwk app counter es =
-    let o = openOf f nwk app counter in
-    let a = amendAll (o .state) es in
-    pick (eqb (o .refusal .number) 0) (a .refusal) (o .refusal)
+unfoldable pub amend_frame_of : List ℕ → List ℕ → List ℕ → ℕ → List ℕ → Refusal
+amend_frame_of f nwk app counter es =
+    let o = open_of f nwk app counter in
+    let a = amend_all_of o.state es in
+    pick (eqb o.refusal.number 0) a.refusal o.refusal
 
 -- the frame as it then stands; where anything is refused, as it was
-unfoldable pub amendedFrame : List ℕ → List ℕ → List ℕ → ℕ → List ℕ → List ℕ
-amendedFrame f nwk app counter es =
-    pick (eqb (amendFrameOf f nwk app counter es .number) 0)
-    (take (length f) (amendAll (openOf f nwk app counter .state) es .state .frame))
+unfoldable pub amended_frame : List ℕ → List ℕ → List ℕ → ℕ → List ℕ → List ℕ
+amended_frame f nwk app counter es =
+    pick (eqb (amend_frame_of f nwk app counter es).number 0)
+    (take (length f) (amend_all_of (open_of f nwk app counter).state es).state.frame)
     f
 
 -- ---- demand 3
@@ -65,8 +61,8 @@ amendedFrame f nwk app counter es =
 -- what holds of the state after a list of amendments to an opened frame
 pub record Stands (f nwk app : List ℕ) (counter : ℕ) (list : List Amendment) (s : Open) : Type 0 where
   -- the frame in it: what sealing makes of the original header and the payload so amended
-  pub frame : take (s .length) (s .frame) ≡ sealed nwk app counter (header f) (payloadBy (clearOf f nwk app counter) list)
+  pub frame : take s.length s.frame ≡ sealed nwk app counter (header f) (payload_by (clear_of f nwk app counter) list)
   -- as long as the original
-  pub long : s .length ≡ length f
+  pub long : s.length ≡ length f
   -- and opening that frame gives this state, chain values included
-  pub opens : openOf (take (s .length) (s .frame)) nwk app counter ≡ acceptedOpening s
+  pub opens : open_of (take s.length s.frame) nwk app counter ≡ accepted_opening s

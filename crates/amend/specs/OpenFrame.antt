@@ -2,59 +2,56 @@
 -- type, 14 and 5, in that order, with a state that is all zeros; or the frame, both keys, the counter and the chain
 -- values of its MIC.
 -- Assumes nothing.
-use mathlib.Core.List.{List, _++_}
-use Prim.Native.Nat.{ℕ, _+_, _-_, _/_, _%_}
-use lib.Dec.{leb}
-use lib.ListN.{length}
-use Rattle·base.specs.Bytes.{pick, tab, at, zeros}
-use Rattle·aes.specs.KeyExpansion.{keyExpansion}
-use Rattle·cmac.specs.Rfc4493.{chain}
-use Rattle·frame_security.specs.Mic.{sameBytes}
-use Rattle·frame.specs.ReadingNumbers.{onData}
-use Rattle·frame.specs.Reading.{readOf}
-use Rattle·frame.specs.Refusals.{refused, notRefused}
-use Rattle·frame.specs.declared.refusals.Refusal.{Refusal}
-use Rattle·frame_security.specs.Security.{ofCounter, covered, message}
-use Rattle·frame_security.specs.Sealing.{resealed}
-use Rattle·amend·specs.declared.amending.Open.{Open}
-use Rattle·amend·specs.declared.opening.Opened.{Opened}
-use Rattle·amend·specs.Amending.{openState, lastPlace}
+use Rattle.std.specs.Prelude.{List, ◌++◌, ℕ, ◌+◌, ◌-◌, ◌/◌, ◌%◌, leb, length}
+use Rattle.base.specs.Bytes.{pick, tab, at, zeros}
+use Rattle.aes.specs.KeyExpansion.{key_expansion_of}
+use Rattle.cmac.specs.Rfc4493.{chain}
+use Rattle.frame_security.specs.Mic.{same_bytes}
+use Rattle.frame.specs.ReadingNumbers.{on_data}
+use Rattle.frame.specs.Reading.{read_of}
+use Rattle.frame.specs.Refusals.{refused, not_refused}
+use Rattle.frame.specs.declared.refusals.Refusal.{Refusal}
+use Rattle.frame_security.specs.Security.{of_counter, covered, message}
+use Rattle.frame_security.specs.Sealing.{resealed}
+use Rattle.amend.specs.declared.amending.Open.{Open}
+use Rattle.amend.specs.declared.opening.Opened.{Opened}
+use Rattle.amend.specs.Amending.{open_state, last_place}
 
 -- a frame as a state holds it: zeros behind it up to 255 bytes
 unfoldable pub held : List ℕ → List ℕ
 held f = f ++ zeros (255 - length f)
 
 -- the chain values of the message m ahead of the frame's blocks 0 to last, sixteen bytes each, then zeros
-unfoldable pub chainsOf : List ℕ → List ℕ → ℕ → List ℕ
-chainsOf ks m last = tab 256 (λ j. pick (leb (j / 16) last) (at (chain ks m (j / 16 + 1)) (j % 16)) 0)
+unfoldable pub chains_of_of : List ℕ → List ℕ → ℕ → List ℕ
+chains_of_of ks m last = tab 256 (λ j. pick (leb (j / 16) last) (at (chain ks m (j / 16 + 1)) (j % 16)) 0)
 
 -- the state of an open frame
-unfoldable pub openedOf : List ℕ → List ℕ → List ℕ → ℕ → Open
-openedOf f nwk app counter =
-    openState (held f) (length f) (keyExpansion nwk) (keyExpansion app) counter
-    (chainsOf (keyExpansion nwk) (message (covered f) counter) (lastPlace (length f - 4)))
+unfoldable pub opened_of : List ℕ → List ℕ → List ℕ → ℕ → Open
+opened_of f nwk app counter =
+    open_state (held f) (length f) (key_expansion_of nwk) (key_expansion_of app) counter
+    (chains_of_of (key_expansion_of nwk) (message (covered f) counter) (last_place (length f - 4)))
 
 -- the state of a refused opening
 unfoldable pub nothing : Open
-nothing = openState (zeros 255) 0 (zeros 176) (zeros 176) 0 (zeros 256)
+nothing = open_state (zeros 255) 0 (zeros 176) (zeros 176) 0 (zeros 256)
 
-abbrev pub refusedOpening : Refusal → Opened
-refusedOpening r = record { refusal = r; state = nothing }
+abbrev pub refused_opening : Refusal → Opened
+refused_opening r = record { refusal = r; state = nothing }
 
-abbrev pub acceptedOpening : Open → Opened
-acceptedOpening s = record { refusal = notRefused; state = s }
+abbrev pub accepted_opening : Open → Opened
+accepted_opening s = record { refusal = not_refused; state = s }
 
 -- 5 where sealing its own header and clear payload does not give the frame: its MIC differs, for all else does give it
-unfoldable pub openChecked : List ℕ → List ℕ → List ℕ → ℕ → Opened
-openChecked f nwk app counter =
-    pick (sameBytes (resealed f nwk app counter) f) (acceptedOpening (openedOf f nwk app counter))
-    (refusedOpening (refused 5))
+unfoldable pub open_checked_of : List ℕ → List ℕ → List ℕ → ℕ → Opened
+open_checked_of f nwk app counter =
+    pick (same_bytes (resealed f nwk app counter) f) (accepted_opening (opened_of f nwk app counter))
+    (refused_opening (refused 5))
 
 -- of a data frame: 14 where the counter's low half is not the frame's
-unfoldable pub openData : List ℕ → List ℕ → List ℕ → ℕ → Opened
-openData f nwk app counter =
-    pick (ofCounter counter f) (openChecked f nwk app counter) (refusedOpening (refused 14))
+unfoldable pub open_data : List ℕ → List ℕ → List ℕ → ℕ → Opened
+open_data f nwk app counter =
+    pick (of_counter counter f) (open_checked_of f nwk app counter) (refused_opening (refused 14))
 
 -- a refused reading keeps its number, a frame of another type answers 4, a data frame goes on
-unfoldable pub openOf : List ℕ → List ℕ → List ℕ → ℕ → Opened
-openOf f nwk app counter = onData (λ d. openData f nwk app counter) refusedOpening (readOf f)
+unfoldable pub open_of : List ℕ → List ℕ → List ℕ → ℕ → Opened
+open_of f nwk app counter = on_data (λ d. open_data f nwk app counter) refused_opening (read_of f)

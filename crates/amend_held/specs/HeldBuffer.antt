@@ -1,20 +1,19 @@
 -- An open frame in a buffer of 868 bytes: the frame with the zeros behind it (255), its length (1), the schedule of the
 -- network key (176) and of the application key (176), the chain values (256) and the counter (4, low byte first).
 -- Every buffer holds some state, also one that no call made: its length has one byte, so that it is at most 255.
--- `loaded-stored` and `stored-loaded` in proofs/HeldUndone.antt say that the two definitions undo each other.
+-- `loaded_stored` and `stored_Loaded` in proofs/HeldUndone.antt say that the two definitions undo each other.
 -- Assumes nothing.
-use mathlib.Core.List.{List, [], _∷_, _++_}
-use Prim.Native.Nat.{ℕ, _%_}
-use Rattle·base.specs.Bytes.{at, part, fourBytes, fromFourBytes}
-use Rattle·amend.specs.declared.amending.Open.{Open}
-use Rattle·amend.specs.Amending.{openState}
+use Rattle.std.specs.Prelude.{List, [], ◌∷◌, ◌++◌, ℕ, ◌%◌}
+use Rattle.base.specs.Bytes.{at, part, four_bytes_of, from_four_bytes}
+use Rattle.amend.specs.declared.amending.Open.{Open}
+use Rattle.amend.specs.Amending.{open_state}
 
 -- a state as a buffer holds it
-unfoldable pub storedOpen : Open → List ℕ
-storedOpen s =
-    s .frame ++ (s .length % 256) ∷ [] ++ s .«nwk_schedule» ++ s .«app_schedule» ++ s .chains ++ fourBytes (s .counter)
+unfoldable pub stored_open : Open → List ℕ
+stored_open s =
+    s.frame ++ (s.length % 256) ∷ [] ++ s.nwk_schedule ++ s.app_schedule ++ s.chains ++ four_bytes_of s.counter
 
 -- the state that a buffer holds
-unfoldable pub loadedOpen : List ℕ → Open
-loadedOpen b =
-    openState (part 0 255 b) (at b 255) (part 256 176 b) (part 432 176 b) (fromFourBytes (part 864 4 b)) (part 608 256 b)
+unfoldable pub loaded_open : List ℕ → Open
+loaded_open b =
+    open_state (part 0 255 b) (at b 255) (part 256 176 b) (part 432 176 b) (from_four_bytes (part 864 4 b)) (part 608 256 b)

@@ -1,41 +1,38 @@
 -- What the calls on a buffer leave in it and give, by the calls on the state that it holds (docs/RULES.md, Amendments), and
--- a history of such calls. They model the code; `held-state` in proofs/Demand3Held.antt ties them to demand 3.
+-- a history of such calls. They model the code; `held_state` in proofs/Demand3Held.antt ties them to demand 3.
 -- Assumes nothing.
-use mathlib.Core.List.{List, [], _∷_, _++_}
-use Prim.Native.Nat.{ℕ}
-use lib.Dec.{eqb, leb}
-use lib.ListN.{length, take}
-use lib.Seq.{sets}
-use Rattle·base.specs.Bytes.{pick}
-use Rattle·frame.specs.Refusals.{refused, notRefused}
-use Rattle·frame.specs.declared.refusals.Refusal.{Refusal}
-use Rattle·amend.specs.declared.amending.Open.{Open}
-use Rattle·amend.specs.declared.amending.Amended.{Amended}
-use Rattle·amend.specs.declared.opening.Opened.{Opened}
-use Rattle·amend.specs.Amending.{amendOf}
-use Rattle·amend.specs.AmendmentLists.{Amendment, decodedAll}
-use Rattle·amend.specs.SignedOnce.{amendListOf}
-use Rattle·amend_held·specs.declared.calls.Taken.{Taken}
-use Rattle·amend_held·specs.HeldBuffer.{storedOpen, loadedOpen}
+use Rattle.std.specs.Prelude.{List, [], ◌∷◌, ◌++◌, ℕ, eqb, leb, length, take}
+use Rattle.std.proofs.lemmas.List.Edits.{sets}
+use Rattle.base.specs.Bytes.{pick}
+use Rattle.frame.specs.Refusals.{refused, not_refused}
+use Rattle.frame.specs.declared.refusals.Refusal.{Refusal}
+use Rattle.amend.specs.declared.amending.Open.{Open}
+use Rattle.amend.specs.declared.amending.Amended.{Amended}
+use Rattle.amend.specs.declared.opening.Opened.{Opened}
+use Rattle.amend.specs.Amending.{amend_of}
+use Rattle.amend.specs.AmendmentLists.{Amendment, decoded_all}
+use Rattle.amend.specs.SignedOnce.{amend_list_of}
+use Rattle.amend_held.specs.declared.calls.Taken.{Taken}
+use Rattle.amend_held.specs.HeldBuffer.{stored_open, loaded_open}
 
 -- the buffer b after a call that gave the state s: as it was where that is refused
 unfoldable pub settled : Refusal → Open → List ℕ → List ℕ
-settled r s b = pick (eqb (r .number) 0) (storedOpen s) b
+settled r s b = pick (eqb r.number 0) (stored_open s) b
 
-abbrev pub openedInto : Opened → List ℕ → List ℕ
-openedInto o b = settled (o .refusal) (o .state) b
+abbrev pub opened_into : Opened → List ℕ → List ℕ
+opened_into o b = settled o.refusal o.state b
 
-abbrev pub amendedInto : Amended → List ℕ → List ℕ
-amendedInto a b = settled (a .refusal) (a .state) b
+abbrev pub amended_into : Amended → List ℕ → List ℕ
+amended_into a b = settled a.refusal a.state b
 
 -- the frame of a state taken out into a string of so many bytes: how many it has, or 7 where it does not fit
-unfoldable pub takenOf : Open → ℕ → Taken
-takenOf s room =
-    pick (leb (s .length) room) (record { refusal = notRefused; length = s .length })
+unfoldable pub taken_of : Open → ℕ → Taken
+taken_of s room =
+    pick (leb s.length room) (record { refusal = not_refused; length = s.length })
     (record { refusal = refused 7; length = 0 })
 
-unfoldable pub takenInto : Open → List ℕ → List ℕ
-takenInto s l = pick (leb (s .length) (length l)) (sets l 0 (take (s .length) (s .frame))) l
+unfoldable pub taken_into : Open → List ℕ → List ℕ
+taken_into s l = pick (leb s.length (length l)) (sets l 0 (take s.length s.frame)) l
 
 -- ---- a history of calls
 
@@ -46,25 +43,25 @@ pub data Call : Type 0 where
 
 -- what the call gives on a state
 abbrev pub given : Call → Open → Amended
-given (one k v) s = amendOf s k v
-given (many es) s = amendListOf s es
+given (one k v) s = amend_of s k v
+given (many es) s = amend_list_of s es
 
 -- the amendments in it
 abbrev pub amendments : Call → List Amendment
 amendments (one k v) = record { offset = k; value = v } ∷ []
-amendments (many es) = decodedAll es
+amendments (many es) = decoded_all es
 
 -- the buffer after it
-abbrev pub heldAfter : List ℕ → Call → List ℕ
-heldAfter b c = amendedInto (given c (loadedOpen b)) b
+abbrev pub held_after : List ℕ → Call → List ℕ
+held_after b c = amended_into (given c (loaded_open b)) b
 
 -- the buffer after a history of calls, refused ones among them
-unfoldable pub heldBy : List ℕ → List Call → List ℕ
-heldBy b [] = b
-heldBy b (c ∷ calls) = heldBy (heldAfter b c) calls
+unfoldable pub held_by_of : List ℕ → List Call → List ℕ
+held_by_of b [] = b
+held_by_of b (c ∷ calls) = held_by_of (held_after b c) calls
 
 -- the amendments of the calls that answer 0, in order
-unfoldable pub madeBy : List ℕ → List Call → List Amendment
-madeBy b [] = []
-madeBy b (c ∷ calls) =
-    pick (eqb (given c (loadedOpen b) .refusal .number) 0) (amendments c) [] ++ madeBy (heldAfter b c) calls
+unfoldable pub made_by : List ℕ → List Call → List Amendment
+made_by b [] = []
+made_by b (c ∷ calls) =
+    pick (eqb (given c (loaded_open b)).refusal.number 0) (amendments c) [] ++ made_by (held_after b c) calls

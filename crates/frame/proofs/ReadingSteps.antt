@@ -1,120 +1,120 @@
 -- What reading gives where its tests are known, one law for each way through the definitions. Each holds since the
 -- definition picks by just these tests.
 -- Assumes nothing.
-use mathlib.Core.Path.{_≡_}
+use mathlib.Core.Path.{◌≡◌}
 use mathlib.Core.List.{List}
-use Prim.Native.Nat.{ℕ, _+_, _-_, _≤_, _<_}
+use Prim.Native.Nat.{ℕ, ◌+◌, ◌-◌, ◌≤◌, ◌<◌}
 use native.Mathlib.Omega.{arith}
 use lib.ListN.{length}
-use borrow.Author.Tests.{lt-ltb, le-ltb, le-leb, lt-leb, eq-eqb, ne-eqb}
-use Rattle·frame·specs.Faults as fault
-use Rattle·frame·specs.Layout.{mtype, major, fhdrLength, fport, payloadStart, payloadEnd}
-use Rattle·frame·specs.Reading.{refuse, portOf, heldBy, payloadOf, dataOf, readJoinRequest, readJoinAccept, readData, readType, readOf}
-use Rattle·frame·specs.declared.parser.FPort.the-variants.{Absent, Port}
-use Rattle·frame·specs.declared.parser.FrmPayload.the-variants.{Nothing, Data as PlainData, MacCommands}
-use Rattle·frame·specs.declared.parser.Reading.the-variants.{JoinRequest, JoinAccept, Data}
+use borrow.Author.Tests.{lt-ltb, le-ltb, le-leb, lt-leb, eq-eqb, ne_eqb}
+use Rattle.frame.specs.Faults as fault
+use Rattle.frame.specs.Layout.{mtype, major, fhdr_length_of, fport, payload_start_of, payload_end_of}
+use Rattle.frame.specs.Reading.{refuse, port_of_of, held_by_of, payload_of, data_of, read_join_request_of, read_join_accept_of, read_data_of, read_type_of, read_of}
+use Rattle.frame.specs.declared.parser.FPort.TheVariants.{Absent, Port}
+use Rattle.frame.specs.declared.parser.FrmPayload.TheVariants.{Nothing, Data as PlainData, MacCommands}
+use Rattle.frame.specs.declared.parser.Reading.TheVariants.{JoinRequest, JoinAccept, Data}
 
 module _ (f : List ℕ) where
   -- ---- the port
 
-  pub port-there : fhdrLength f + 6 ≤ length f → portOf f ≡ Port (fport f)
-  unfolding portOf
-  port-there h = simp (le-leb _ _ h)
+  pub port_there : fhdr_length_of f + 6 ≤ length f → port_of_of f ≡ Port (fport f)
+  unfolding port_of_of
+  port_there h = simp (le-leb _ _ h)
 
-  pub port-absent : length f < fhdrLength f + 6 → portOf f ≡ Absent
-  unfolding portOf
-  port-absent h = simp (lt-leb _ _ h)
+  pub port_absent : length f < fhdr_length_of f + 6 → port_of_of f ≡ Absent
+  unfolding port_of_of
+  port_absent h = simp (lt-leb _ _ h)
 
   -- ---- the payload
 
-  pub payload-none : length f < fhdrLength f + 6 → payloadOf f ≡ Nothing
-  unfolding payloadOf
-  payload-none h = rw (port-absent h)
+  pub payload-none : length f < fhdr_length_of f + 6 → payload_of f ≡ Nothing
+  unfolding payload_of
+  payload-none h = rw (port_absent h)
 
-  pub payload-held : fhdrLength f + 6 ≤ length f → payloadOf f ≡ heldBy (Port (fport f)) (payloadStart f) (payloadEnd f)
-  unfolding payloadOf
-  payload-held h = rw (port-there h)
+  pub payload-held : fhdr_length_of f + 6 ≤ length f → payload_of f ≡ held_by_of (Port (fport f)) (payload_start_of f) (payload_end_of f)
+  unfolding payload_of
+  payload-held h = rw (port_there h)
 
-  pub payload-commands : fhdrLength f + 6 ≤ length f → fport f ≡ 0 → payloadOf f ≡ MacCommands (payloadStart f) (payloadEnd f)
-  unfolding payloadOf
-  payload-commands h z = simp (port-there h, eq-eqb _ _ z)
+  pub payload-commands : fhdr_length_of f + 6 ≤ length f → fport f ≡ 0 → payload_of f ≡ MacCommands (payload_start_of f) (payload_end_of f)
+  unfolding payload_of
+  payload-commands h z = simp (port_there h, eq-eqb _ _ z)
 
-  pub payload-data : fhdrLength f + 6 ≤ length f → (fport f ≡ 0 → ⊥) → payloadOf f ≡ PlainData (payloadStart f) (payloadEnd f)
-  unfolding payloadOf
-  payload-data h z = simp (port-there h, ne-eqb _ _ z)
+  pub payload_data : fhdr_length_of f + 6 ≤ length f → (fport f ≡ 0 → ⊥) → payload_of f ≡ PlainData (payload_start_of f) (payload_end_of f)
+  unfolding payload_of
+  payload_data h z = simp (port_there h, ne_eqb _ _ z)
 
   -- ---- by the type
 
-  pub request-right : length f ≡ 23 → readJoinRequest f ≡ JoinRequest
-  unfolding readJoinRequest
-  request-right e = simp (eq-eqb _ _ e)
+  pub request_right : length f ≡ 23 → read_join_request_of f ≡ JoinRequest
+  unfolding read_join_request_of
+  request_right e = simp (eq-eqb _ _ e)
 
-  pub request-wrong : (length f ≡ 23 → ⊥) → readJoinRequest f ≡ refuse fault.join-length f
-  unfolding readJoinRequest
-  request-wrong n = simp (ne-eqb _ _ n)
+  pub request_wrong : (length f ≡ 23 → ⊥) → read_join_request_of f ≡ refuse fault.join_length f
+  unfolding read_join_request_of
+  request_wrong n = simp (ne_eqb _ _ n)
 
-  pub accept-short : length f ≡ 17 → readJoinAccept f ≡ JoinAccept 17
-  unfolding readJoinAccept
-  accept-short e = simp (eq-eqb _ _ e)
+  pub accept_short : length f ≡ 17 → read_join_accept_of f ≡ JoinAccept 17
+  unfolding read_join_accept_of
+  accept_short e = simp (eq-eqb _ _ e)
 
-  pub accept-long : length f ≡ 33 → readJoinAccept f ≡ JoinAccept 33
-  unfolding readJoinAccept
-  accept-long e =
+  pub accept_long : length f ≡ 33 → read_join_accept_of f ≡ JoinAccept 33
+  unfolding read_join_accept_of
+  accept_long e =
       let n : length f ≡ 17 → ⊥ = λ q. omega arith in
-      simp (ne-eqb _ _ n, eq-eqb _ _ e)
+      simp (ne_eqb _ _ n, eq-eqb _ _ e)
 
-  pub accept-wrong : (length f ≡ 17 → ⊥) → (length f ≡ 33 → ⊥) → readJoinAccept f ≡ refuse fault.join-length f
-  unfolding readJoinAccept
-  accept-wrong n m = simp (ne-eqb _ _ n, ne-eqb _ _ m)
+  pub accept_wrong : (length f ≡ 17 → ⊥) → (length f ≡ 33 → ⊥) → read_join_accept_of f ≡ refuse fault.join_length f
+  unfolding read_join_accept_of
+  accept_wrong n m = simp (ne_eqb _ _ n, ne_eqb _ _ m)
 
-  pub data-right : 5 + fhdrLength f ≤ length f → readData f ≡ Data (dataOf f)
-  unfolding readData
-  data-right h = simp (le-leb _ _ h)
+  pub data_right : 5 + fhdr_length_of f ≤ length f → read_data_of f ≡ Data (data_of f)
+  unfolding read_data_of
+  data_right h = simp (le-leb _ _ h)
 
-  pub data-wrong : length f < 5 + fhdrLength f → readData f ≡ refuse fault.header f
-  unfolding readData
-  data-wrong h = simp (lt-leb _ _ h)
+  pub data_wrong : length f < 5 + fhdr_length_of f → read_data_of f ≡ refuse fault.header f
+  unfolding read_data_of
+  data_wrong h = simp (lt-leb _ _ h)
 
-  pub type-request : mtype f ≡ 0 → readType f ≡ readJoinRequest f
-  unfolding readType
-  type-request e = simp (eq-eqb _ _ e)
+  pub type_request : mtype f ≡ 0 → read_type_of f ≡ read_join_request_of f
+  unfolding read_type_of
+  type_request e = simp (eq-eqb _ _ e)
 
-  pub type-accept : mtype f ≡ 1 → readType f ≡ readJoinAccept f
-  unfolding readType
-  type-accept e =
+  pub type_accept : mtype f ≡ 1 → read_type_of f ≡ read_join_accept_of f
+  unfolding read_type_of
+  type_accept e =
       let n : mtype f ≡ 0 → ⊥ = λ q. omega arith in
-      simp (ne-eqb _ _ n, eq-eqb _ _ e)
+      simp (ne_eqb _ _ n, eq-eqb _ _ e)
 
-  pub type-data : 2 ≤ mtype f → mtype f < 6 → readType f ≡ readData f
-  unfolding readType
-  type-data h k =
-      let n : mtype f ≡ 0 → ⊥ = λ q. omega arith in
-      let m : mtype f ≡ 1 → ⊥ = λ q. omega arith in
-      simp (ne-eqb _ _ n, ne-eqb _ _ m, lt-ltb _ _ k)
-
-  pub type-other : 6 ≤ mtype f → readType f ≡ refuse fault.type f
-  unfolding readType
-  type-other h =
+  pub type_data : 2 ≤ mtype f → mtype f < 6 → read_type_of f ≡ read_data_of f
+  unfolding read_type_of
+  type_data h k =
       let n : mtype f ≡ 0 → ⊥ = λ q. omega arith in
       let m : mtype f ≡ 1 → ⊥ = λ q. omega arith in
-      simp (ne-eqb _ _ n, ne-eqb _ _ m, le-ltb _ _ h)
+      simp (ne_eqb _ _ n, ne_eqb _ _ m, lt-ltb _ _ k)
+
+  pub type_other : 6 ≤ mtype f → read_type_of f ≡ refuse fault.type f
+  unfolding read_type_of
+  type_other h =
+      let n : mtype f ≡ 0 → ⊥ = λ q. omega arith in
+      let m : mtype f ≡ 1 → ⊥ = λ q. omega arith in
+      simp (ne_eqb _ _ n, ne_eqb _ _ m, le-ltb _ _ h)
 
   -- ---- of any frame
 
-  pub too-long : 255 < length f → readOf f ≡ refuse fault.too-long f
-  unfolding readOf
-  too-long h = simp (lt-ltb _ _ h)
+  pub too_long : 255 < length f → read_of f ≡ refuse fault.too_long f
+  unfolding read_of
+  too_long h = simp (lt-ltb _ _ h)
 
-  pub too-short : length f < 12 → readOf f ≡ refuse fault.too-short f
-  unfolding readOf
-  too-short h =
+  pub too_short : length f < 12 → read_of f ≡ refuse fault.too_short f
+  unfolding read_of
+  too_short h =
       let k : length f ≤ 255 = omega arith in
       simp (le-ltb _ _ k, lt-ltb _ _ h)
 
-  pub other-version : 12 ≤ length f → length f ≤ 255 → (major f ≡ 0 → ⊥) → readOf f ≡ refuse fault.version f
-  unfolding readOf
-  other-version h k n = simp (le-ltb _ _ k, le-ltb _ _ h, ne-eqb _ _ n)
+  pub other_version : 12 ≤ length f → length f ≤ 255 → (major f ≡ 0 → ⊥) → read_of f ≡ refuse fault.version f
+  unfolding read_of
+  other_version h k n = simp (le-ltb _ _ k, le-ltb _ _ h, ne_eqb _ _ n)
 
-  pub by-type : 12 ≤ length f → length f ≤ 255 → major f ≡ 0 → readOf f ≡ readType f
-  unfolding readOf
-  by-type h k e = simp (le-ltb _ _ k, le-ltb _ _ h, eq-eqb _ _ e)
+  pub by_type : 12 ≤ length f → length f ≤ 255 → major f ≡ 0 → read_of f ≡ read_type_of f
+  unfolding read_of
+  by_type h k e = simp (le-ltb _ _ k, le-ltb _ _ h, eq-eqb _ _ e)

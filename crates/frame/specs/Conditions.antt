@@ -1,14 +1,10 @@
 -- docs/RULES.md, Reading and Refusals, as conditions on a frame: what each kind of frame is, and when
 -- each refusal of reading is given, which is where its own condition holds and that of no earlier one does.
 -- Assumes nothing.
-use mathlib.Core.Path.{_≡_}
-use mathlib.Core.List.{List}
-use mathlib.Core.Logic.{_⊎_}
-use Prim.Native.Nat.{ℕ, _+_, _≤_, _<_}
-use lib.ListN.{length}
-use Rattle·frame·specs.Faults.{Fault, too-long, too-short, version, type, join-length, header, faultRefusal}
-use Rattle·frame·specs.Layout.{mtype, major, fhdrLength}
-use Rattle·frame·specs.declared.refusals.Refusal.{Refusal}
+use Rattle.std.specs.Prelude.{◌≡◌, List, ◌⊎◌, ℕ, ◌+◌, ◌≤◌, ◌<◌, length}
+use Rattle.frame.specs.Faults.{Fault, too_long, too_short, version, type, join_length, header, fault_refusal}
+use Rattle.frame.specs.Layout.{mtype, major, fhdr_length_of}
+use Rattle.frame.specs.declared.refusals.Refusal.{Refusal}
 
 -- ---- what is accepted
 
@@ -30,7 +26,7 @@ pub record IsData (f : List ℕ) : Type 0 where
   pub version : major f ≡ 0
   pub from : 2 ≤ mtype f
   pub below : mtype f < 6
-  pub fits : 5 + fhdrLength f ≤ length f
+  pub fits : 5 + fhdr_length_of f ≤ length f
 
 -- ---- what is refused
 
@@ -43,54 +39,54 @@ pub record Gives12 (f : List ℕ) : Type 0 where
   pub long : 255 < length f
 
 pub record Gives1 (f : List ℕ) : Type 0 where
-  pub not-12 : length f ≤ 255
+  pub not_12 : length f ≤ 255
   pub short : length f < 12
 
 pub record Gives2 (f : List ℕ) : Type 0 where
-  pub not-12 : length f ≤ 255
-  pub not-1 : 12 ≤ length f
+  pub not_12 : length f ≤ 255
+  pub not_1 : 12 ≤ length f
   pub other : major f ≡ 0 → ⊥
 
 pub record Gives3 (f : List ℕ) : Type 0 where
-  pub not-12 : length f ≤ 255
-  pub not-1 : 12 ≤ length f
-  pub not-2 : major f ≡ 0
+  pub not_12 : length f ≤ 255
+  pub not_1 : 12 ≤ length f
+  pub not_2 : major f ≡ 0
   pub other : 6 ≤ mtype f
 
 pub record Gives4Join (f : List ℕ) : Type 0 where
-  pub not-12 : length f ≤ 255
-  pub not-1 : 12 ≤ length f
-  pub not-2 : major f ≡ 0
+  pub not_12 : length f ≤ 255
+  pub not_1 : 12 ≤ length f
+  pub not_2 : major f ≡ 0
   pub wrong : WrongJoinLength f
 
 pub record Gives4Header (f : List ℕ) : Type 0 where
-  pub not-12 : length f ≤ 255
-  pub not-1 : 12 ≤ length f
-  pub not-2 : major f ≡ 0
-  pub not-3 : mtype f < 6
-  pub data-frame : 2 ≤ mtype f
-  pub short : length f < 5 + fhdrLength f
+  pub not_12 : length f ≤ 255
+  pub not_1 : 12 ≤ length f
+  pub not_2 : major f ≡ 0
+  pub not_3 : mtype f < 6
+  pub data_frame_lem : 2 ≤ mtype f
+  pub short : length f < 5 + fhdr_length_of f
 
 -- the fault is the one that is found in f
 abbrev pub Found : Fault → List ℕ → Type 0
-Found too-long f = Gives12 f
-Found too-short f = Gives1 f
+Found too_long f = Gives12 f
+Found too_short f = Gives1 f
 Found version f = Gives2 f
 Found type f = Gives3 f
-Found join-length f = Gives4Join f
+Found join_length f = Gives4Join f
 Found header f = Gives4Header f
 
 -- the refusal r, number and place, is given: it is that of the fault which is found
 pub record Gives (f : List ℕ) (r : Refusal) : Type 0 where
   pub fault : Fault
   pub found : Found fault f
-  pub is : r ≡ faultRefusal fault f
+  pub is : r ≡ fault_refusal fault f
 
 -- accepted: no condition holds
 pub record Passes (f : List ℕ) : Type 0 where
-  pub not-12 : length f ≤ 255
-  pub not-1 : 12 ≤ length f
-  pub not-2 : major f ≡ 0
-  pub not-3 : mtype f < 6
-  pub not-join : WrongJoinLength f → ⊥
-  pub not-header : 2 ≤ mtype f → 5 + fhdrLength f ≤ length f
+  pub not_12 : length f ≤ 255
+  pub not_1 : 12 ≤ length f
+  pub not_2 : major f ≡ 0
+  pub not_3 : mtype f < 6
+  pub not_join : WrongJoinLength f → ⊥
+  pub not_header : 2 ≤ mtype f → 5 + fhdr_length_of f ≤ length f

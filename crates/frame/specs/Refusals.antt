@@ -1,8 +1,8 @@
 -- A refusal by its number and place (docs/RULES.md, Refusals). Beside the values of a record, number 0 says that nothing was
 -- refused.
 -- Assumes nothing.
-use Prim.Native.Nat.{ℕ}
-use Rattle·frame·specs.declared.refusals.Refusal.{Refusal}
+use Rattle.std.specs.Prelude.{ℕ}
+use Rattle.frame.specs.declared.refusals.Refusal.{Refusal}
 
 abbrev pub refusal : ℕ → ℕ → Refusal
 refusal n p = record { number = n; place = p }
@@ -11,5 +11,5 @@ refusal n p = record { number = n; place = p }
 abbrev pub refused : ℕ → Refusal
 refused n = refusal n 0
 
-abbrev pub notRefused : Refusal
-notRefused = refused 0
+abbrev pub not_refused : Refusal
+not_refused = refused 0

@@ -1,15 +1,11 @@
 -- What building gives, from LoRaWAN 1.0 section 4 (docs/RULES.md, Building): tests in their order, and of data frames the
 -- clear bytes and the refusals.
 -- Assumes nothing.
-use mathlib.Core.Bool.{Bool, true, false, not}
-use mathlib.Core.List.{List, [], _∷_, _++_}
-use Prim.Native.Nat.{ℕ, _+_, _/_, _%_}
-use lib.Dec.{ltb, eqb}
-use lib.ListN.{length}
-use Rattle·base.specs.Bytes.{pick}
-use Rattle·frame.specs.declared.parser.FPort.{FPort}
-use Rattle·frame.specs.declared.parser.FPort.the-variants.{Absent, Port}
-use Rattle·frame_build·specs.declared.creator.data_frame.DataParts.{DataParts}
+use Rattle.std.specs.Prelude.{Bool, true, false, not, List, [], ◌∷◌, ◌++◌, ℕ, ◌+◌, ◌/◌, ◌%◌, ltb, eqb, length}
+use Rattle.base.specs.Bytes.{pick}
+use Rattle.frame.specs.declared.parser.FPort.{FPort}
+use Rattle.frame.specs.declared.parser.FPort.TheVariants.{Absent, Port}
+use Rattle.frame_build.specs.declared.creator.data_frame.DataParts.{DataParts}
 
 -- ---- tests in their order
 
@@ -20,66 +16,66 @@ abbrev pub either : Bool → Bool → Bool
 either a b = pick a true b
 
 -- the number of the first test that holds; 0 where none does
-abbrev pub firstOf : List (Bool × ℕ) → ℕ
-firstOf [] = 0
-firstOf (t ∷ ts) = pick (t .0) (t .1) (firstOf ts)
+abbrev pub first_of : List (Bool × ℕ) → ℕ
+first_of [] = 0
+first_of (t ∷ ts) = pick t.0 t.1 (first_of ts)
 
 -- ---- data frames (4.3)
 
 -- 4.2.1 the first byte: 2 and 3 unconfirmed, 4 and 5 confirmed; the odd ones go down
-abbrev pub mhdrOf : Bool → Bool → ℕ
-mhdrOf confirmed uplink = pick confirmed 128 64 + pick uplink 0 32
+abbrev pub mhdr_of : Bool → Bool → ℕ
+mhdr_of confirmed uplink = pick confirmed 128 64 + pick uplink 0 32
 
 -- the port byte, if there is one
-abbrev pub portBytes : FPort → List ℕ
-portBytes Absent = []
-portBytes (Port p) = p ∷ []
+abbrev pub port_bytes : FPort → List ℕ
+port_bytes Absent = []
+port_bytes (Port p) = p ∷ []
 
-abbrev pub isAbsent : FPort → Bool
-isAbsent Absent = true
-isAbsent (Port p) = false
+abbrev pub is_absent : FPort → Bool
+is_absent Absent = true
+is_absent (Port p) = false
 
-abbrev pub isZero : FPort → Bool
-isZero Absent = false
-isZero (Port p) = eqb p 0
+abbrev pub is_zero : FPort → Bool
+is_zero Absent = false
+is_zero (Port p) = eqb p 0
 
 -- 4.3.1 commands go into FOpts, on port 0 into the payload
-abbrev pub foptsOf : FPort → List ℕ → List ℕ
-foptsOf port commands = pick (isZero port) [] commands
+abbrev pub fopts_of : FPort → List ℕ → List ℕ
+fopts_of port commands = pick (is_zero port) [] commands
 
-abbrev pub bodyOf : FPort → List ℕ → List ℕ → List ℕ
-bodyOf port commands body = pick (isZero port) commands body
+abbrev pub body_of : FPort → List ℕ → List ℕ → List ℕ
+body_of port commands body = pick (is_zero port) commands body
 
 -- MHDR, DevAddr, FCtrl with FOptsLen in its low nibble, FCnt low byte first: the eight bytes that every data frame
 -- begins with
-unfoldable pub fixedHeader : DataParts → ℕ → List ℕ
-fixedHeader d foptsLength =
-    mhdrOf (d .confirmed) (d .uplink)
-    ∷ (d .«dev_addr» ++ (d .fctrl + foptsLength) ∷ (d .fcnt % 256) ∷ (d .fcnt / 256 % 256) ∷ [])
+unfoldable pub fixed_header_of : DataParts → ℕ → List ℕ
+fixed_header_of d fopts_length =
+    mhdr_of d.confirmed d.uplink
+    ∷ (d.dev_addr ++ (d.fctrl + fopts_length) ∷ (d.fcnt % 256) ∷ (d.fcnt / 256 % 256) ∷ [])
 
 -- every byte ahead of the payload: those eight, FOpts and FPort
-unfoldable pub dataHeader : DataParts → List ℕ → List ℕ
-dataHeader d commands =
-    fixedHeader d (length (foptsOf (d .port) commands)) ++ foptsOf (d .port) commands ++ portBytes (d .port)
+unfoldable pub data_header : DataParts → List ℕ → List ℕ
+data_header d commands =
+    fixed_header_of d (length (fopts_of d.port commands)) ++ fopts_of d.port commands ++ port_bytes d.port
 
 -- a data frame without its MIC, before encryption
-abbrev pub clearData : DataParts → List ℕ → List ℕ → List ℕ
-clearData d commands body = dataHeader d commands ++ bodyOf (d .port) commands body
+abbrev pub clear_data : DataParts → List ℕ → List ℕ → List ℕ
+clear_data d commands body = data_header d commands ++ body_of d.port commands body
 
 -- the length that the frame would have, its MIC included
-abbrev pub dataLength : DataParts → List ℕ → List ℕ → ℕ
-dataLength d commands body = length (clearData d commands body) + 4
+abbrev pub data_length : DataParts → List ℕ → List ℕ → ℕ
+data_length d commands body = length (clear_data d commands body) + 4
 
 -- the refusals of data building, each with its test, in the order 7, 13, 9, 10, 11, 12
-abbrev pub dataTests : DataParts → List ℕ → List ℕ → ℕ → List (Bool × ℕ)
-dataTests d commands body room =
+abbrev pub data_tests : DataParts → List ℕ → List ℕ → ℕ → List (Bool × ℕ)
+data_tests d commands body room =
     (ltb room 255, 7)
-    ∷ (not (eqb (d .fctrl % 16) 0), 13)
-    ∷ (both (not (isZero (d .port))) (ltb 15 (length commands)), 9)
-    ∷ (both (isZero (d .port)) (ltb 0 (length body)), 10)
-    ∷ (both (isAbsent (d .port)) (ltb 0 (length body)), 11)
-    ∷ (ltb 255 (dataLength d commands body), 12)
+    ∷ (not (eqb (d.fctrl % 16) 0), 13)
+    ∷ (both (not (is_zero d.port)) (ltb 15 (length commands)), 9)
+    ∷ (both (is_zero d.port) (ltb 0 (length body)), 10)
+    ∷ (both (is_absent d.port) (ltb 0 (length body)), 11)
+    ∷ (ltb 255 (data_length d commands body), 12)
     ∷ []
 
-unfoldable pub dataRefusal : DataParts → List ℕ → List ℕ → ℕ → ℕ
-dataRefusal d commands body room = firstOf (dataTests d commands body room)
+unfoldable pub data_refusal_of : DataParts → List ℕ → List ℕ → ℕ → ℕ
+data_refusal_of d commands body room = first_of (data_tests d commands body room)

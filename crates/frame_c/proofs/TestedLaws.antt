@@ -1,10 +1,10 @@
 -- A MIC test promises one answer, of which the functions for C give the number and the byte.
 -- Assumes nothing.
-use mathlib.Core.Path.{_≡_, ap, _∙_}
+use mathlib.Core.Path.{◌≡◌, ap, ◌∙◌}
 use Prim.Native.Nat.{ℕ}
-use Rattle·frame_opening.specs.declared.mic_tests.MicTest.{MicTest}
-use Rattle·frame_c·specs.CAnswers.{testAnswer, passesOf}
+use Rattle.frame_opening.specs.declared.mic_tests.MicTest.{MicTest}
+use Rattle.frame_c.specs.CAnswers.{test_answer_of, passes_of}
 
-pub tested : {t u : MicTest} (was : ℕ) {r x : ℕ} → t ≡ u → r ≡ testAnswer t → x ≡ passesOf t was
-    → (r ≡ testAnswer u) × (x ≡ passesOf u was)
-tested was p a b = (a ∙ ap testAnswer p, b ∙ ap (λ (t : MicTest). passesOf t was) p)
+pub tested : {t u : MicTest} (was : ℕ) {r x : ℕ} → t ≡ u → r ≡ test_answer_of t → x ≡ passes_of t was
+    → (r ≡ test_answer_of u) × (x ≡ passes_of u was)
+tested was p a b = (a ∙ ap test_answer_of p, b ∙ ap (λ (t : MicTest). passes_of t was) p)

@@ -1,7 +1,8 @@
 // Amendments.
-ghost use mathlib.Core.Path.{_≡_};
-ghost use Rattle·amend.specs.AmendmentLists.{amendFrameOf, amendedFrame};
-ghost use Rattle·frame_c·specs.CAnswers.{refusalAnswer};
+ghost use Rattle.std.specs.Prelude.{◌≡◌};
+ghost use Rattle.amend.specs.AmendmentLists.{amend_frame_of, amended_frame};
+ghost use Rattle.frame_c.specs.CAnswers.{refusal_answer_of};
+
 use crate::conversions::answers::refusal_answer;
 
 #[unsafe(no_mangle)]
@@ -12,15 +13,13 @@ pub extern "C" fn zinovoky_amend(
     counter: u32,
     amendments: &[u32],
 ) -> u64
-    ensures { λ r.
-        ⌜ r
-        ≡ refusalAnswer
-        (amendFrameOf (now (frame .entry)) (now («nwk_skey» .entry)) (now («app_skey» .entry)) counter
-        (now (amendments .entry))) ⌝ }
-    ensures { λ _.
-        ⌜ now (frame .exit)
-        ≡ amendedFrame (now (frame .entry)) (now («nwk_skey» .entry)) (now («app_skey» .entry)) counter
-        (now (amendments .entry)) ⌝ }
+    ensures value { result
+        ≡ refusal_answer_of
+        (amend_frame_of frame.old nwk_skey.now app_skey.now counter
+        amendments.now) }
+    ensures frame_after { frame.new
+        ≡ amended_frame frame.old nwk_skey.now app_skey.now counter
+        amendments.now }
 {
     let nwk = *nwk_skey;
     let app = *app_skey;

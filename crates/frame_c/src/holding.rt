@@ -1,12 +1,12 @@
 // A frame held open in a buffer of 868 bytes that the caller lends.
-ghost use mathlib.Core.Path.{_≡_};
-ghost use lib.ListN.{length};
-ghost use Rattle·amend.specs.Amending.{amendOf};
-ghost use Rattle·amend.specs.OpenFrame.{openOf};
-ghost use Rattle·amend.specs.SignedOnce.{amendListOf};
-ghost use Rattle·amend_held.specs.HeldBuffer.{loadedOpen};
-ghost use Rattle·amend_held.specs.HeldCalls.{openedInto, amendedInto, takenOf, takenInto};
-ghost use Rattle·frame_c·specs.CAnswers.{refusalAnswer, takenAnswer};
+ghost use Rattle.std.specs.Prelude.{◌≡◌, length};
+ghost use Rattle.amend.specs.Amending.{amend_of};
+ghost use Rattle.amend.specs.OpenFrame.{open_of};
+ghost use Rattle.amend.specs.SignedOnce.{amend_list_of};
+ghost use Rattle.amend_held.specs.HeldBuffer.{loaded_open};
+ghost use Rattle.amend_held.specs.HeldCalls.{opened_into, amended_into, taken_of, taken_into};
+ghost use Rattle.frame_c.specs.CAnswers.{refusal_answer_of, taken_answer};
+
 use crate::conversions::answers::refusal_answer;
 use frame::packed::numbered_bits;
 
@@ -18,13 +18,11 @@ pub extern "C" fn zinovoky_hold(
     counter: u32,
     buffer: &mut [u8; 868],
 ) -> u64
-    ensures { λ r.
-        ⌜ r
-        ≡ refusalAnswer (openOf (now (frame .entry)) (now («nwk_skey» .entry)) (now («app_skey» .entry)) counter .refusal) ⌝ }
-    ensures { λ _.
-        ⌜ now (buffer .exit)
-        ≡ openedInto (openOf (now (frame .entry)) (now («nwk_skey» .entry)) (now («app_skey» .entry)) counter)
-        (now (buffer .entry)) ⌝ }
+    ensures value { result
+        ≡ refusal_answer_of (open_of frame.now nwk_skey.now app_skey.now counter).refusal }
+    ensures buffer_after { buffer.new
+        ≡ opened_into (open_of frame.now nwk_skey.now app_skey.now counter)
+        buffer.old }
 {
     let nwk = *nwk_skey;
     let app = *app_skey;
@@ -34,9 +32,8 @@ pub extern "C" fn zinovoky_hold(
 
 #[unsafe(no_mangle)]
 pub extern "C" fn zinovoky_held_amend(buffer: &mut [u8; 868], offset: usize, value: u8) -> u64
-    ensures { λ r. ⌜ r ≡ refusalAnswer (amendOf (loadedOpen (now (buffer .entry))) offset value .refusal) ⌝ }
-    ensures { λ _.
-        ⌜ now (buffer .exit) ≡ amendedInto (amendOf (loadedOpen (now (buffer .entry))) offset value) (now (buffer .entry)) ⌝ }
+    ensures value { result ≡ refusal_answer_of (amend_of (loaded_open buffer.old) offset value).refusal }
+    ensures buffer_after { buffer.new ≡ amended_into (amend_of (loaded_open buffer.old) offset value) buffer.old }
 {
     let refusal = amend_held::calls::amend_held(buffer, offset, value);
     refusal_answer(refusal)
@@ -44,11 +41,9 @@ pub extern "C" fn zinovoky_held_amend(buffer: &mut [u8; 868], offset: usize, val
 
 #[unsafe(no_mangle)]
 pub extern "C" fn zinovoky_held_amend_list(buffer: &mut [u8; 868], amendments: &[u32]) -> u64
-    ensures { λ r.
-        ⌜ r ≡ refusalAnswer (amendListOf (loadedOpen (now (buffer .entry))) (now (amendments .entry)) .refusal) ⌝ }
-    ensures { λ _.
-        ⌜ now (buffer .exit)
-        ≡ amendedInto (amendListOf (loadedOpen (now (buffer .entry))) (now (amendments .entry))) (now (buffer .entry)) ⌝ }
+    ensures value { result ≡ refusal_answer_of (amend_list_of (loaded_open buffer.old) amendments.now).refusal }
+    ensures buffer_after { buffer.new
+        ≡ amended_into (amend_list_of (loaded_open buffer.old) amendments.now) buffer.old }
 {
     let refusal = amend_held::calls::amend_list_held(buffer, amendments);
     refusal_answer(refusal)
@@ -56,8 +51,8 @@ pub extern "C" fn zinovoky_held_amend_list(buffer: &mut [u8; 868], amendments: &
 
 #[unsafe(no_mangle)]
 pub extern "C" fn zinovoky_held_frame(buffer: &[u8; 868], out: &mut [u8]) -> u64
-    ensures { λ r. ⌜ r ≡ takenAnswer (takenOf (loadedOpen (now (buffer .entry))) (length (now (out .entry)))) ⌝ }
-    ensures { λ _. ⌜ now (out .exit) ≡ takenInto (loadedOpen (now (buffer .entry))) (now (out .entry)) ⌝ }
+    ensures value { result ≡ taken_answer (taken_of (loaded_open buffer.now) (length out.old)) }
+    ensures out_after { out.new ≡ taken_into (loaded_open buffer.now) out.old }
 {
     let taken = amend_held::calls::frame_of(buffer, out);
     let refusal = taken.refusal;

@@ -1,62 +1,60 @@
 -- What testing and opening a frame gives, from LoRaWAN 1.0: the MIC (4.4, 6.2.4, 6.2.5) and the payload (4.3.3). The refusals
 -- come in the order reading, 6 (docs/RULES.md, Refusals); what is refused leaves every byte as it was.
 -- Assumes nothing.
-use mathlib.Core.Bool.{Bool, true, false}
-use mathlib.Core.List.{List}
-use Prim.Native.Nat.{ℕ}
-use Rattle·base.specs.Bytes.{pick}
-use Rattle·frame_security.specs.Mic.{sameBytes}
-use Rattle·frame.specs.Layout.{fcnt, headerEnd, payloadEnd, micOf}
-use Rattle·frame.specs.ReadingNumbers.{onRequest, onAccept, onData}
-use Rattle·frame.specs.Refusals.{refused, notRefused}
-use Rattle·frame.specs.declared.refusals.Refusal.{Refusal}
-use Rattle·frame.specs.Reading.{readOf}
-use Rattle·frame_security.specs.Security.{cryptedPart, frameKey, fullCounter, covered, dataMic, joinMic}
-use Rattle·frame.specs.declared.keys.MaybeKey.{MaybeKey}
-use Rattle·frame_opening·specs.declared.mic_tests.MicTest.{MicTest}
-use Rattle·frame_opening·specs.declared.mic_tests.MicTest.the-variants.{Passes, Fails, Refused as RefusedTest}
-use Rattle·frame_opening·specs.declared.payload.Opening.{Opening}
-use Rattle·frame_opening·specs.declared.payload.Opening.the-variants.{Opened, Refused}
+use Rattle.std.specs.Prelude.{Bool, true, false, List, ℕ}
+use Rattle.base.specs.Bytes.{pick}
+use Rattle.frame_security.specs.Mic.{same_bytes}
+use Rattle.frame.specs.Layout.{fcnt, header_end_of, payload_end_of, mic_of_of}
+use Rattle.frame.specs.ReadingNumbers.{on_request, on_accept, on_data}
+use Rattle.frame.specs.Refusals.{refused, not_refused}
+use Rattle.frame.specs.declared.refusals.Refusal.{Refusal}
+use Rattle.frame.specs.Reading.{read_of}
+use Rattle.frame_security.specs.Security.{crypted_part, frame_key, full_counter_of, covered, data_mic_of, join_mic}
+use Rattle.frame.specs.declared.keys.MaybeKey.{MaybeKey}
+use Rattle.frame_opening.specs.declared.mic_tests.MicTest.{MicTest}
+use Rattle.frame_opening.specs.declared.mic_tests.MicTest.TheVariants.{Passes, Fails, Refused as RefusedTest}
+use Rattle.frame_opening.specs.declared.payload.Opening.{Opening}
+use Rattle.frame_opening.specs.declared.payload.Opening.TheVariants.{Opened, Refused}
 
 -- ---- 4.4, 6.2.4, 6.2.5 the MIC
 
 -- 6.2.4, 6.2.5 a join message under AppKey, a join-accept given clear
-unfoldable pub joinPasses : List ℕ → List ℕ → Bool
-joinPasses key f = sameBytes (micOf f) (joinMic key (covered f))
+unfoldable pub join_passes : List ℕ → List ℕ → Bool
+join_passes key f = same_bytes (mic_of_of f) (join_mic key (covered f))
 
 -- 4.4 a data message under NwkSKey and the whole 32-bit counter
-unfoldable pub dataPasses : List ℕ → ℕ → List ℕ → Bool
-dataPasses key counter f = sameBytes (micOf f) (dataMic key (covered f) counter)
+unfoldable pub data_passes : List ℕ → ℕ → List ℕ → Bool
+data_passes key counter f = same_bytes (mic_of_of f) (data_mic_of key (covered f) counter)
 
 abbrev pub answered : Bool → MicTest
 answered passes = pick passes Passes Fails
 
-unfoldable pub joinRequestTest : List ℕ → List ℕ → MicTest
-joinRequestTest key f = onRequest (answered (joinPasses key f)) RefusedTest (readOf f)
+unfoldable pub join_request_test : List ℕ → List ℕ → MicTest
+join_request_test key f = on_request (answered (join_passes key f)) RefusedTest (read_of f)
 
-unfoldable pub joinAcceptTest : List ℕ → List ℕ → MicTest
-joinAcceptTest key f = onAccept (λ n. answered (joinPasses key f)) RefusedTest (readOf f)
+unfoldable pub join_accept_test : List ℕ → List ℕ → MicTest
+join_accept_test key f = on_accept (λ n. answered (join_passes key f)) RefusedTest (read_of f)
 
-unfoldable pub dataTest : List ℕ → ℕ → List ℕ → MicTest
-dataTest key counter f = onData (λ d. answered (dataPasses key counter f)) RefusedTest (readOf f)
+unfoldable pub data_test_of : List ℕ → ℕ → List ℕ → MicTest
+data_test_of key counter f = on_data (λ d. answered (data_passes key counter f)) RefusedTest (read_of f)
 
 -- its refusal, which is none where the test was made, and whether it passes
-abbrev pub testRefusal : MicTest → Refusal
-testRefusal Passes = notRefused
-testRefusal Fails = notRefused
-testRefusal (RefusedTest r) = r
+abbrev pub test_refusal : MicTest → Refusal
+test_refusal Passes = not_refused
+test_refusal Fails = not_refused
+test_refusal (RefusedTest r) = r
 
-abbrev pub testPasses : MicTest → Bool
-testPasses Passes = true
-testPasses Fails = false
-testPasses (RefusedTest r) = false
+abbrev pub test_passes : MicTest → Bool
+test_passes Passes = true
+test_passes Fails = false
+test_passes (RefusedTest r) = false
 
 -- ---- opening: the answer, and the bytes of the lent frame as the call returns
 
 -- its refusal, which is none where the frame was opened
-abbrev pub openingRefusal : Opening → Refusal
-openingRefusal Opened = notRefused
-openingRefusal (Refused r) = r
+abbrev pub opening_refusal : Opening → Refusal
+opening_refusal Opened = not_refused
+opening_refusal (Refused r) = r
 
 pub record Result : Type 0 where
   pub answer : Opening
@@ -73,15 +71,15 @@ unopened f r = result (Refused r) f
 
 -- the payload decrypted where it lies: the counter's high half is the caller's, its low half the frame's
 unfoldable pub decrypted : List ℕ → ℕ → List ℕ → List ℕ
-decrypted key counter f = cryptedPart key f (fullCounter counter (fcnt f)) (headerEnd f) (payloadEnd f)
+decrypted key counter f = crypted_part key f (full_counter_of counter (fcnt f)) (header_end_of f) (payload_end_of f)
 
 -- 6 where the key was not given
-unfoldable pub openedUnder : MaybeKey → ℕ → List ℕ → Result
-openedUnder key counter f = pick (key .given) (result Opened (decrypted (key .key) counter f)) (unopened f (refused 6))
+unfoldable pub opened_under : MaybeKey → ℕ → List ℕ → Result
+opened_under key counter f = pick key.given (result Opened (decrypted key.key counter f)) (unopened f (refused 6))
 
-unfoldable pub dataOpened : MaybeKey → MaybeKey → ℕ → List ℕ → Result
-dataOpened nwk app counter f =
-    onData (λ d. openedUnder (frameKey f nwk app) counter f) (unopened f) (readOf f)
+unfoldable pub data_opened : MaybeKey → MaybeKey → ℕ → List ℕ → Result
+data_opened nwk app counter f =
+    on_data (λ d. opened_under (frame_key f nwk app) counter f) (unopened f) (read_of f)
 
-abbrev pub givenKey : List ℕ → MaybeKey
-givenKey key = record { given = true; key = key }
+abbrev pub given_key : List ℕ → MaybeKey
+given_key key = record { given = true; key = key }

@@ -1,34 +1,33 @@
 -- The session keys that a join-accept gives, from LoRaWAN 1.0 section 6.2.5: AES under AppKey of 1 (NwkSKey) or 2 (AppSKey),
 -- AppNonce, NetID, DevNonce, and zeros. A frame of another type is refused, and gives zeros.
 -- Assumes nothing.
-use mathlib.Core.List.{List, _∷_, _++_}
-use Prim.Native.Nat.{ℕ}
-use Rattle·base.specs.Bytes.{zeros}
-use Rattle·frame.specs.Layout.{appNonce, netId}
-use Rattle·frame.specs.Refusals.{notRefused}
-use Rattle·frame.specs.declared.refusals.Refusal.{Refusal}
-use Rattle·aes.specs.KeyExpansion.{keyExpansion}
-use Rattle·aes.specs.Fips197.{cipher}
-use Rattle·frame.specs.ReadingNumbers.{onAccept}
-use Rattle·frame.specs.Reading.{readOf}
-use Rattle·frame_opening·specs.declared.join_accept.SessionKeys.{SessionKeys}
+use Rattle.std.specs.Prelude.{List, ◌∷◌, ◌++◌, ℕ}
+use Rattle.base.specs.Bytes.{zeros}
+use Rattle.frame.specs.Layout.{app_nonce_of, net_id_of}
+use Rattle.frame.specs.Refusals.{not_refused}
+use Rattle.frame.specs.declared.refusals.Refusal.{Refusal}
+use Rattle.aes.specs.KeyExpansion.{key_expansion_of}
+use Rattle.aes.specs.Fips197.{cipher}
+use Rattle.frame.specs.ReadingNumbers.{on_accept}
+use Rattle.frame.specs.Reading.{read_of}
+use Rattle.frame_opening.specs.declared.join_accept.SessionKeys.{SessionKeys}
 
-unfoldable pub keyBlock : ℕ → List ℕ → List ℕ → List ℕ → List ℕ
-keyBlock first appNonce netId devNonce = first ∷ (appNonce ++ (netId ++ (devNonce ++ zeros 7)))
+unfoldable pub key_block_of : ℕ → List ℕ → List ℕ → List ℕ → List ℕ
+key_block_of first app_nonce_of net_id_of dev_nonce_of = first ∷ (app_nonce_of ++ (net_id_of ++ (dev_nonce_of ++ zeros 7)))
 
-unfoldable pub sessionKey : ℕ → List ℕ → List ℕ → List ℕ → List ℕ
-sessionKey first key devNonce f = cipher (keyExpansion key) (keyBlock first (appNonce f) (netId f) devNonce)
+unfoldable pub session_key : ℕ → List ℕ → List ℕ → List ℕ → List ℕ
+session_key first key dev_nonce_of f = cipher (key_expansion_of key) (key_block_of first (app_nonce_of f) (net_id_of f) dev_nonce_of)
 
-unfoldable pub derivedKeys : List ℕ → List ℕ → List ℕ → SessionKeys
-derivedKeys key devNonce f =
+unfoldable pub derived_keys : List ℕ → List ℕ → List ℕ → SessionKeys
+derived_keys key dev_nonce_of f =
     record {
-      refusal = notRefused;
-      «nwk_skey» = sessionKey 1 key devNonce f;
-      «app_skey» = sessionKey 2 key devNonce f;
+      refusal = not_refused;
+      nwk_skey = session_key 1 key dev_nonce_of f;
+      app_skey = session_key 2 key dev_nonce_of f;
     }
 
-unfoldable pub noKeys : Refusal → SessionKeys
-noKeys r = record { refusal = r; «nwk_skey» = zeros 16; «app_skey» = zeros 16 }
+unfoldable pub no_keys_of : Refusal → SessionKeys
+no_keys_of r = record { refusal = r; nwk_skey = zeros 16; app_skey = zeros 16 }
 
-unfoldable pub sessionKeys : List ℕ → List ℕ → List ℕ → SessionKeys
-sessionKeys key devNonce f = onAccept (λ n. derivedKeys key devNonce f) noKeys (readOf f)
+unfoldable pub session_keys_of : List ℕ → List ℕ → List ℕ → SessionKeys
+session_keys_of key dev_nonce_of f = on_accept (λ n. derived_keys key dev_nonce_of f) no_keys_of (read_of f)

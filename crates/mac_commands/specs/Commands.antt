@@ -1,38 +1,33 @@
 -- A command as a row of the table and its values, and back; one step of reading and the writing of one command, by the table
 -- (LoRaWAN 1.0.2, section 5; docs/RULES.md, MAC commands).
 -- Assumes nothing.
-use mathlib.Core.List.{List, [], _∷_}
-use mathlib.Core.Bool.{Bool, true, false}
-use Prim.Native.Nat.{ℕ, zero, suc, _+_, _-_, _%_}
-use lib.Dec.{ltb, leb}
-use lib.IntN.{ℤ, pos, negsuc}
-use lib.ListN.{length, getD}
-use lib.Seq.{sets}
-use Rattle·base.specs.Bytes.{pick, at, part}
-use Rattle·frame.specs.Refusals.{refusal, refused}
-use Rattle·mac_commands·specs.Layout.{fits, fieldsOf, numberOf, row, rowOf, known, sizeOf, bytesOf, lowFirst}
-use Rattle·mac_commands·specs.declared.maccommands.Command.{Command}
-use Rattle·mac_commands·specs.declared.maccommands.Command.the-variants.{LinkCheckAns, LinkADRReq, DutyCycleReq, RXParamSetupReq, DevStatusReq, NewChannelReq, RXTimingSetupReq, TxParamSetupReq, DlChannelReq, LinkCheckReq, LinkADRAns, DutyCycleAns, RXParamSetupAns, DevStatusAns, NewChannelAns, RXTimingSetupAns, TxParamSetupAns, DlChannelAns}
-use Rattle·mac_commands·specs.declared.maccommands.Step.{Step}
-use Rattle·mac_commands·specs.declared.maccommands.Step.the-variants.{Found, End, Refused}
-use Rattle·mac_commands·specs.declared.maccommands.RawStep.{RawStep}
-use Rattle·mac_commands·specs.declared.maccommands.RawStep.the-variants.{Found as RawFound, End as RawEnd, Refused as RawRefused}
-use Rattle·mac_commands·specs.declared.maccommandcreator.Fields.{Fields}
-use Rattle·mac_commands·specs.declared.maccommandcreator.Packed.{Packed}
-use Rattle·mac_commands·specs.declared.maccommandcreator.Packed.the-variants.{Number, Unfit}
-use Rattle·mac_commands·specs.declared.maccommandcreator.Written.{Written}
-use Rattle·mac_commands·specs.declared.maccommandcreator.Written.the-variants.{Upto}
-use Rattle·mac_commands·specs.declared.maccommandcreator.Written.the-variants.{Refused as Unwritten}
+use Rattle.std.specs.Prelude.{List, [], ◌∷◌, Bool, true, false, ℕ, zero, suc, ◌+◌, ◌-◌, ◌%◌, ltb, leb, ℤ, pos, negsuc, length, get_or}
+use Rattle.std.proofs.lemmas.List.Edits.{sets}
+use Rattle.base.specs.Bytes.{pick, at, part}
+use Rattle.frame.specs.Refusals.{refusal, refused}
+use Rattle.mac_commands.specs.Layout.{fits, fields_of, number_of, row, row_of, known, size_of, bytes_of, low_first}
+use Rattle.mac_commands.specs.declared.maccommands.Command.{Command}
+use Rattle.mac_commands.specs.declared.maccommands.Command.TheVariants.{LinkCheckAns, LinkADRReq, DutyCycleReq, RXParamSetupReq, DevStatusReq, NewChannelReq, RXTimingSetupReq, TxParamSetupReq, DlChannelReq, LinkCheckReq, LinkADRAns, DutyCycleAns, RXParamSetupAns, DevStatusAns, NewChannelAns, RXTimingSetupAns, TxParamSetupAns, DlChannelAns}
+use Rattle.mac_commands.specs.declared.maccommands.Step.{Step}
+use Rattle.mac_commands.specs.declared.maccommands.Step.TheVariants.{Found, End, Refused}
+use Rattle.mac_commands.specs.declared.maccommands.RawStep.{RawStep}
+use Rattle.mac_commands.specs.declared.maccommands.RawStep.TheVariants.{Found as RawFound, End as RawEnd, Refused as RawRefused}
+use Rattle.mac_commands.specs.declared.maccommandcreator.Fields.{Fields}
+use Rattle.mac_commands.specs.declared.maccommandcreator.Packed.{Packed}
+use Rattle.mac_commands.specs.declared.maccommandcreator.Packed.TheVariants.{Number, Unfit}
+use Rattle.mac_commands.specs.declared.maccommandcreator.Written.{Written}
+use Rattle.mac_commands.specs.declared.maccommandcreator.Written.TheVariants.{Upto}
+use Rattle.mac_commands.specs.declared.maccommandcreator.Written.TheVariants.{Refused as Unwritten}
 
 -- ---- the margin of DevStatusAns (5.5): six bits in two's complement, -32 to 31
 
-unfoldable pub marginOf : ℕ → ℤ
-marginOf x = pick (ltb x 32) (pos x) (negsuc (63 - x))
+unfoldable pub margin_of_of : ℕ → ℤ
+margin_of_of x = pick (ltb x 32) (pos x) (negsuc (63 - x))
 
 -- back; a number outside is given as 64, which six bits cannot hold
-unfoldable pub rawOf : ℤ → ℕ
-rawOf (pos m) = pick (ltb m 32) m 64
-rawOf (negsuc k) = pick (ltb k 32) (63 - k) 64
+unfoldable pub raw_of_of : ℤ → ℕ
+raw_of_of (pos m) = pick (ltb m 32) m 64
+raw_of_of (negsuc k) = pick (ltb k 32) (63 - k) 64
 
 -- ---- a command by its row and its values
 
@@ -51,114 +46,114 @@ commands xs =
     ∷ LinkADRAns (at xs 0) (at xs 1) (at xs 2)
     ∷ DutyCycleAns
     ∷ RXParamSetupAns (at xs 0) (at xs 1) (at xs 2)
-    ∷ DevStatusAns (at xs 0) (marginOf (at xs 1))
+    ∷ DevStatusAns (at xs 0) (margin_of_of (at xs 1))
     ∷ NewChannelAns (at xs 0) (at xs 1)
     ∷ RXTimingSetupAns
     ∷ TxParamSetupAns
     ∷ DlChannelAns (at xs 0) (at xs 1)
     ∷ []
 
-unfoldable pub commandOf : ℕ → List ℕ → Command
-commandOf r xs = getD (commands xs) r LinkCheckReq
+unfoldable pub command_of_of : ℕ → List ℕ → Command
+command_of_of r xs = get_or (commands xs) r LinkCheckReq
 
-unfoldable pub fieldsAs : Command → Fields
-fieldsAs (LinkCheckAns margin gateways) = record { row = 0; values = margin ∷ gateways ∷ 0 ∷ 0 ∷ 0 ∷ [] }
-fieldsAs (LinkADRReq dataRate txPower mask control transmissions) = record { row = 1; values = dataRate ∷ txPower ∷ mask ∷ control ∷ transmissions ∷ [] }
-fieldsAs (DutyCycleReq max) = record { row = 2; values = max ∷ 0 ∷ 0 ∷ 0 ∷ 0 ∷ [] }
-fieldsAs (RXParamSetupReq rx1Offset rx2DataRate frequency) = record { row = 3; values = rx1Offset ∷ rx2DataRate ∷ frequency ∷ 0 ∷ 0 ∷ [] }
-fieldsAs DevStatusReq = record { row = 4; values = 0 ∷ 0 ∷ 0 ∷ 0 ∷ 0 ∷ [] }
-fieldsAs (NewChannelReq index frequency maxDataRate minDataRate) = record { row = 5; values = index ∷ frequency ∷ maxDataRate ∷ minDataRate ∷ 0 ∷ [] }
-fieldsAs (RXTimingSetupReq delay) = record { row = 6; values = delay ∷ 0 ∷ 0 ∷ 0 ∷ 0 ∷ [] }
-fieldsAs (TxParamSetupReq downlinkDwell uplinkDwell maxEirp) = record { row = 7; values = downlinkDwell ∷ uplinkDwell ∷ maxEirp ∷ 0 ∷ 0 ∷ [] }
-fieldsAs (DlChannelReq index frequency) = record { row = 8; values = index ∷ frequency ∷ 0 ∷ 0 ∷ 0 ∷ [] }
-fieldsAs LinkCheckReq = record { row = 9; values = 0 ∷ 0 ∷ 0 ∷ 0 ∷ 0 ∷ [] }
-fieldsAs (LinkADRAns power dataRate mask) = record { row = 10; values = power ∷ dataRate ∷ mask ∷ 0 ∷ 0 ∷ [] }
-fieldsAs DutyCycleAns = record { row = 11; values = 0 ∷ 0 ∷ 0 ∷ 0 ∷ 0 ∷ [] }
-fieldsAs (RXParamSetupAns rx1Offset rx2DataRate channel) = record { row = 12; values = rx1Offset ∷ rx2DataRate ∷ channel ∷ 0 ∷ 0 ∷ [] }
-fieldsAs (DevStatusAns battery margin) = record { row = 13; values = battery ∷ rawOf margin ∷ 0 ∷ 0 ∷ 0 ∷ [] }
-fieldsAs (NewChannelAns range frequency) = record { row = 14; values = range ∷ frequency ∷ 0 ∷ 0 ∷ 0 ∷ [] }
-fieldsAs RXTimingSetupAns = record { row = 15; values = 0 ∷ 0 ∷ 0 ∷ 0 ∷ 0 ∷ [] }
-fieldsAs TxParamSetupAns = record { row = 16; values = 0 ∷ 0 ∷ 0 ∷ 0 ∷ 0 ∷ [] }
-fieldsAs (DlChannelAns uplink frequency) = record { row = 17; values = uplink ∷ frequency ∷ 0 ∷ 0 ∷ 0 ∷ [] }
+unfoldable pub fields_as : Command → Fields
+fields_as (LinkCheckAns margin gateways) = record { row = 0; values = margin ∷ gateways ∷ 0 ∷ 0 ∷ 0 ∷ [] }
+fields_as (LinkADRReq data_rate tx_power mask control transmissions) = record { row = 1; values = data_rate ∷ tx_power ∷ mask ∷ control ∷ transmissions ∷ [] }
+fields_as (DutyCycleReq max) = record { row = 2; values = max ∷ 0 ∷ 0 ∷ 0 ∷ 0 ∷ [] }
+fields_as (RXParamSetupReq rx1_offset rx2_data_rate frequency) = record { row = 3; values = rx1_offset ∷ rx2_data_rate ∷ frequency ∷ 0 ∷ 0 ∷ [] }
+fields_as DevStatusReq = record { row = 4; values = 0 ∷ 0 ∷ 0 ∷ 0 ∷ 0 ∷ [] }
+fields_as (NewChannelReq index frequency max_data_rate min_data_rate) = record { row = 5; values = index ∷ frequency ∷ max_data_rate ∷ min_data_rate ∷ 0 ∷ [] }
+fields_as (RXTimingSetupReq delay) = record { row = 6; values = delay ∷ 0 ∷ 0 ∷ 0 ∷ 0 ∷ [] }
+fields_as (TxParamSetupReq downlink_dwell uplink_dwell max_eirp) = record { row = 7; values = downlink_dwell ∷ uplink_dwell ∷ max_eirp ∷ 0 ∷ 0 ∷ [] }
+fields_as (DlChannelReq index frequency) = record { row = 8; values = index ∷ frequency ∷ 0 ∷ 0 ∷ 0 ∷ [] }
+fields_as LinkCheckReq = record { row = 9; values = 0 ∷ 0 ∷ 0 ∷ 0 ∷ 0 ∷ [] }
+fields_as (LinkADRAns power data_rate mask) = record { row = 10; values = power ∷ data_rate ∷ mask ∷ 0 ∷ 0 ∷ [] }
+fields_as DutyCycleAns = record { row = 11; values = 0 ∷ 0 ∷ 0 ∷ 0 ∷ 0 ∷ [] }
+fields_as (RXParamSetupAns rx1_offset rx2_data_rate channel) = record { row = 12; values = rx1_offset ∷ rx2_data_rate ∷ channel ∷ 0 ∷ 0 ∷ [] }
+fields_as (DevStatusAns battery margin) = record { row = 13; values = battery ∷ raw_of_of margin ∷ 0 ∷ 0 ∷ 0 ∷ [] }
+fields_as (NewChannelAns range frequency) = record { row = 14; values = range ∷ frequency ∷ 0 ∷ 0 ∷ 0 ∷ [] }
+fields_as RXTimingSetupAns = record { row = 15; values = 0 ∷ 0 ∷ 0 ∷ 0 ∷ 0 ∷ [] }
+fields_as TxParamSetupAns = record { row = 16; values = 0 ∷ 0 ∷ 0 ∷ 0 ∷ 0 ∷ [] }
+fields_as (DlChannelAns uplink frequency) = record { row = 17; values = uplink ∷ frequency ∷ 0 ∷ 0 ∷ 0 ∷ [] }
 
-abbrev pub rowAt : Command → ℕ
-rowAt c = fieldsAs c .row
+abbrev pub row_at : Command → ℕ
+row_at c = (fields_as c).row
 
-abbrev pub valuesOf : Command → List ℕ
-valuesOf c = fieldsAs c .values
+abbrev pub values_of_of : Command → List ℕ
+values_of_of c = (fields_as c).values
 
 -- the rows from the tenth on go up
-abbrev pub upOf : ℕ → Bool
-upOf r = leb 9 r
+abbrev pub up_of : ℕ → Bool
+up_of r = leb 9 r
 
 -- the identifier of a row, in both directions
-abbrev pub idOf : ℕ → ℕ
-idOf r = 2 + r % 9
+abbrev pub id_of : ℕ → ℕ
+id_of r = 2 + r % 9
 
 -- ---- reading the command at place i of s
 
 -- of the row r: the number behind the identifier and the place past it, or 17
-unfoldable pub rawAt : ℕ → List ℕ → ℕ → RawStep
-rawAt r s i =
-    pick (leb (i + 1 + sizeOf r) (length s)) (RawFound r (lowFirst (part (i + 1) (sizeOf r) s)) (i + 1 + sizeOf r))
+unfoldable pub raw_at : ℕ → List ℕ → ℕ → RawStep
+raw_at r s i =
+    pick (leb (i + 1 + size_of r) (length s)) (RawFound r (low_first (part (i + 1) (size_of r) s)) (i + 1 + size_of r))
     (RawRefused (refusal 17 i))
 
 -- 16 goes before 17; at or past the end is the end
-unfoldable pub rawStepAt : Bool → List ℕ → ℕ → RawStep
-rawStepAt up s i =
-    pick (ltb i (length s)) (pick (known (at s i)) (rawAt (rowOf up (at s i)) s i) (RawRefused (refusal 16 i))) RawEnd
+unfoldable pub raw_step_at : Bool → List ℕ → ℕ → RawStep
+raw_step_at up s i =
+    pick (ltb i (length s)) (pick (known (at s i)) (raw_at (row_of up (at s i)) s i) (RawRefused (refusal 16 i))) RawEnd
 
 -- the command of a row and its number
-abbrev pub stepOf : RawStep → Step
-stepOf (RawFound r v next) = Found (commandOf r (fieldsOf (row r) v)) next
-stepOf RawEnd = End
-stepOf (RawRefused e) = Refused e
+abbrev pub step_of : RawStep → Step
+step_of (RawFound r v next) = Found (command_of_of r (fields_of (row r) v)) next
+step_of RawEnd = End
+step_of (RawRefused e) = Refused e
 
-unfoldable pub stepAt : Bool → List ℕ → ℕ → Step
-stepAt up s i = stepOf (rawStepAt up s i)
+unfoldable pub step_at : Bool → List ℕ → ℕ → Step
+step_at up s i = step_of (raw_step_at up s i)
 
 -- ---- the bytes of a command: the identifier, then the number of its values, low byte first
 
-unfoldable pub rowBytes : ℕ → ℕ → List ℕ
-rowBytes r v = idOf r ∷ bytesOf (sizeOf r) v
+unfoldable pub row_bytes : ℕ → ℕ → List ℕ
+row_bytes r v = id_of r ∷ bytes_of (size_of r) v
 
-unfoldable pub bytesAs : Command → List ℕ
-bytesAs c = rowBytes (rowAt c) (numberOf (row (rowAt c)) (valuesOf c))
+unfoldable pub bytes_as : Command → List ℕ
+bytes_as c = row_bytes (row_at c) (number_of (row (row_at c)) (values_of_of c))
 
 -- every value fits its field
-abbrev pub fitsAll : Command → Bool
-fitsAll c = fits (row (rowAt c)) (valuesOf c)
+abbrev pub fits_all : Command → Bool
+fits_all c = fits (row (row_at c)) (values_of_of c)
 
 -- the number behind the identifier, where the values fit
-unfoldable pub packedOf : ℕ → List ℕ → Packed
-packedOf r xs = pick (fits (row r) xs) (Number (numberOf (row r) xs)) Unfit
+unfoldable pub packed_of : ℕ → List ℕ → Packed
+packed_of r xs = pick (fits (row r) xs) (Number (number_of (row r) xs)) Unfit
 
 -- ---- writing values of the row r into n bytes, or into the bytes l, from place i on
 
 -- 7 where there is no room
-unfoldable pub putAs : ℕ → ℕ → ℕ → Written
-putAs r n i = pick (leb (i + (1 + sizeOf r)) n) (Upto (i + (1 + sizeOf r))) (Unwritten (refused 7))
+unfoldable pub put_as : ℕ → ℕ → ℕ → Written
+put_as r n i = pick (leb (i + (1 + size_of r)) n) (Upto (i + (1 + size_of r))) (Unwritten (refused 7))
 
-unfoldable pub putIn : ℕ → ℕ → List ℕ → ℕ → List ℕ
-putIn r v l i = pick (leb (i + (1 + sizeOf r)) (length l)) (sets l i (rowBytes r v)) l
+unfoldable pub put_in : ℕ → ℕ → List ℕ → ℕ → List ℕ
+put_in r v l i = pick (leb (i + (1 + size_of r)) (length l)) (sets l i (row_bytes r v)) l
 
 -- 18 where a value does not fit goes before it
-unfoldable pub writtenAs : ℕ → List ℕ → ℕ → ℕ → Written
-writtenAs r xs n i = pick (fits (row r) xs) (putAs r n i) (Unwritten (refused 18))
+unfoldable pub written_as : ℕ → List ℕ → ℕ → ℕ → Written
+written_as r xs n i = pick (fits (row r) xs) (put_as r n i) (Unwritten (refused 18))
 
-unfoldable pub writtenIn : ℕ → List ℕ → List ℕ → ℕ → List ℕ
-writtenIn r xs l i = pick (fits (row r) xs) (putIn r (numberOf (row r) xs) l i) l
+unfoldable pub written_in : ℕ → List ℕ → List ℕ → ℕ → List ℕ
+written_in r xs l i = pick (fits (row r) xs) (put_in r (number_of (row r) xs) l i) l
 
 -- a command
-abbrev pub commandWritten : Command → ℕ → ℕ → Written
-commandWritten c n i = writtenAs (rowAt c) (valuesOf c) n i
+abbrev pub command_written : Command → ℕ → ℕ → Written
+command_written c n i = written_as (row_at c) (values_of_of c) n i
 
-abbrev pub commandIn : Command → List ℕ → ℕ → List ℕ
-commandIn c l i = writtenIn (rowAt c) (valuesOf c) l i
+abbrev pub command_in : Command → List ℕ → ℕ → List ℕ
+command_in c l i = written_in (row_at c) (values_of_of c) l i
 
 -- values by direction and identifier: 16 where there is no such identifier goes before 18 and 7
-unfoldable pub fieldsWritten : Bool → ℕ → List ℕ → ℕ → ℕ → Written
-fieldsWritten up id xs n i = pick (known id) (writtenAs (rowOf up id) xs n i) (Unwritten (refused 16))
+unfoldable pub fields_written : Bool → ℕ → List ℕ → ℕ → ℕ → Written
+fields_written up id xs n i = pick (known id) (written_as (row_of up id) xs n i) (Unwritten (refused 16))
 
-unfoldable pub fieldsIn : Bool → ℕ → List ℕ → List ℕ → ℕ → List ℕ
-fieldsIn up id xs l i = pick (known id) (writtenIn (rowOf up id) xs l i) l
+unfoldable pub fields_in : Bool → ℕ → List ℕ → List ℕ → ℕ → List ℕ
+fields_in up id xs l i = pick (known id) (written_in (row_of up id) xs l i) l

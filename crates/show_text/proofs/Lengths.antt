@@ -1,185 +1,185 @@
 -- How long each line is at most, and so each text: a number below 100,000 has at most five digits, any number has at most
 -- twenty, a byte has two.
 -- Assumes nothing.
-use mathlib.Core.Path.{_≡_, refl}
-use mathlib.Core.List.{List, [], _∷_, _++_}
-use mathlib.Core.Logic.{⊎-elim}
-use Prim.Native.Nat.{ℕ, _+_, _-_, _*_, _≤_, _<_}
+use mathlib.Core.Path.{◌≡◌, refl}
+use mathlib.Core.List.{List, [], ◌∷◌, ◌++◌}
+use mathlib.Core.Logic.{⊎_elim}
+use Prim.Native.Nat.{ℕ, ◌+◌, ◌-◌, ◌*◌, ◌≤◌, ◌<◌}
 use native.Mathlib.Omega.{arith}
 use lib.ListN.{length, length-append, length-drop, length-take}
 use borrow.Author.Tests.{lt-ltb, le-ltb}
-use Rattle·base.specs.Bytes.{part, AreBytes}
-use Rattle·base.proofs.Cases.{by-order}
-use Rattle·frame.specs.Layout.{micOf}
-use Rattle·frame.specs.Reading.{readOf}
-use Rattle·frame.specs.ReadingNumbers.{portNumber}
-use Rattle·frame.specs.Refusals.{refusal}
-use Rattle·frame.specs.declared.refusals.Refusal.{Refusal}
-use Rattle·frame.specs.declared.parser.FPort.{FPort}
-use Rattle·frame.specs.declared.parser.FPort.the-variants.{Absent, Port}
-use Rattle·frame.specs.declared.parser.FrmPayload.{FrmPayload}
-use Rattle·frame.specs.declared.parser.FrmPayload.the-variants.{Nothing, Data as PlainData, MacCommands}
-use Rattle·frame.specs.declared.parser.DataFrame.{DataFrame}
-use Rattle·frame.specs.declared.parser.Reading.{Reading}
-use Rattle·frame.specs.declared.parser.Reading.the-variants.{JoinRequest, JoinAccept, Data, Refused}
-use Rattle·frame.proofs.ReadingLaws.{accept-read, data-read, data-fields}
-use Rattle·show_text·specs.Text.{hexOf, decimalOf, typeWord, lengthWord, fcntWord, foptsWord, portWord, refusedWord, atWord, payloadWord, space, newline, hexLine, numberLine, pairLine, portLine, placeLine, Spans, payloadLine, headerText, restText, dataText, euisText, joinRequestText, joinAcceptText, refusalText, textOfReading, textOf, textOfInput}
-use Rattle·show_text·proofs.Decimal.{length-decimalIn, length-small}
-use Rattle·show_text·proofs.Fields.{Fields, fields}
+use Rattle.base.specs.Bytes.{part, AreBytes}
+use Rattle.base.proofs.Cases.{by_order}
+use Rattle.frame.specs.Layout.{mic_of_of}
+use Rattle.frame.specs.Reading.{read_of}
+use Rattle.frame.specs.ReadingNumbers.{port_number_of}
+use Rattle.frame.specs.Refusals.{refusal}
+use Rattle.frame.specs.declared.refusals.Refusal.{Refusal}
+use Rattle.frame.specs.declared.parser.FPort.{FPort}
+use Rattle.frame.specs.declared.parser.FPort.TheVariants.{Absent, Port}
+use Rattle.frame.specs.declared.parser.FrmPayload.{FrmPayload}
+use Rattle.frame.specs.declared.parser.FrmPayload.TheVariants.{Nothing, Data as PlainData, MacCommands}
+use Rattle.frame.specs.declared.parser.DataFrame.{DataFrame}
+use Rattle.frame.specs.declared.parser.Reading.{Reading}
+use Rattle.frame.specs.declared.parser.Reading.TheVariants.{JoinRequest, JoinAccept, Data, Refused}
+use Rattle.frame.proofs.ReadingLaws.{accept_read, data_read, data_fields}
+use Rattle.show_text.specs.Text.{hex_of, decimal_of, type_word, length_word, fcnt_word, fopts_word, port_word, refused_word, at_word, payload_word, space, newline, hex_line_of, number_line, pair_line, port_line, place_line, Spans, payload_line, header_text, rest_text, data_text, euis_text, join_request_text, join_accept_text, refusal_text, text_of_reading, text_of, text_of_input}
+use Rattle.show_text.proofs.Decimal.{length-decimal_in, length_small}
+use Rattle.show_text.proofs.Fields.{Fields, fields}
 
-pub length-hexOf : (s : List ℕ) → length (hexOf s) ≡ 2 * length s
-unfolding hexOf
-length-hexOf [] = refl
-length-hexOf (b ∷ s) = omega (arith, length-hexOf s)
+pub length-hex_of : (s : List ℕ) → length (hex_of s) ≡ 2 * length s
+unfolding hex_of
+length-hex_of [] = refl
+length-hex_of (b ∷ s) = omega (arith, length-hex_of s)
 
-pub length-decimalOf : (n : ℕ) → length (decimalOf n) ≤ 20
-unfolding decimalOf
-length-decimalOf n = length-decimalIn 20 n
+pub length-decimal_of : (n : ℕ) → length (decimal_of n) ≤ 20
+unfolding decimal_of
+length-decimal_of n = length-decimal_in 20 n
 
-pub length-five : (n : ℕ) → n < 100000 → length (decimalOf n) ≤ 5
-unfolding decimalOf
-length-five n h = length-small 20 4 n h
+pub length_five : (n : ℕ) → n < 100000 → length (decimal_of n) ≤ 5
+unfolding decimal_of
+length_five n h = length_small 20 4 n h
 
-pub length-hexLine : (word bytes : List ℕ) → length (hexLine word bytes) ≡ length word + 2 * length bytes + 1
-unfolding hexLine
-length-hexLine word bytes = simp (length-append, length-hexOf) (omega arith)
+pub length-hex_line_of : (word bytes : List ℕ) → length (hex_line_of word bytes) ≡ length word + 2 * length bytes + 1
+unfolding hex_line_of
+length-hex_line_of word bytes = simp (length-append, length-hex_of) (omega arith)
 
-pub length-numberLine : (word : List ℕ) (n : ℕ) → length (numberLine word n) ≡ length (word ++ decimalOf n) + 1
-unfolding numberLine
-length-numberLine word n = length-append (word ++ decimalOf n) newline
+pub length-number_line : (word : List ℕ) (n : ℕ) → length (number_line word n) ≡ length (word ++ decimal_of n) + 1
+unfolding number_line
+length-number_line word n = length-append (word ++ decimal_of n) newline
 
-pub length-smallLine : (word : List ℕ) (n : ℕ) → n < 100000 → length (numberLine word n) ≤ length word + 6
-length-smallLine word n h =
-    omega (arith, length-numberLine word n, length-append word (decimalOf n), length-five n h)
+pub length_small_line : (word : List ℕ) (n : ℕ) → n < 100000 → length (number_line word n) ≤ length word + 6
+length_small_line word n h =
+    omega (arith, length-number_line word n, length-append word (decimal_of n), length_five n h)
 
-pub length-pairLine : (word : List ℕ) (m : ℕ) (between : List ℕ) (n : ℕ)
-    → length (pairLine word m between n) ≡ length (word ++ decimalOf m) + length (numberLine between n)
-unfolding pairLine
-length-pairLine word m between n = length-append (word ++ decimalOf m) (numberLine between n)
+pub length-pair_line : (word : List ℕ) (m : ℕ) (between : List ℕ) (n : ℕ)
+    → length (pair_line word m between n) ≡ length (word ++ decimal_of m) + length (number_line between n)
+unfolding pair_line
+length-pair_line word m between n = length-append (word ++ decimal_of m) (number_line between n)
 
-pub length-smallPair : (word : List ℕ) (m : ℕ) (between : List ℕ) (n : ℕ) → m < 100000 → n < 100000
-    → length (pairLine word m between n) ≤ length word + length between + 11
-length-smallPair word m between n h k =
+pub length_small_pair : (word : List ℕ) (m : ℕ) (between : List ℕ) (n : ℕ) → m < 100000 → n < 100000
+    → length (pair_line word m between n) ≤ length word + length between + 11
+length_small_pair word m between n h k =
     omega (
       arith,
-      length-pairLine word m between n,
-      length-append word (decimalOf m),
-      length-five m h,
-      length-smallLine between n k,
+      length-pair_line word m between n,
+      length-append word (decimal_of m),
+      length_five m h,
+      length_small_line between n k,
     )
 
-pub length-portLine : (p : FPort) → portNumber p < 100000 → length (portLine p) ≤ 11
-unfolding portLine
-length-portLine Absent h = omega arith
-length-portLine (Port p) h = length-smallLine portWord p h
+pub length-port_line : (p : FPort) → port_number_of p < 100000 → length (port_line p) ≤ 11
+unfolding port_line
+length-port_line Absent h = omega arith
+length-port_line (Port p) h = length_small_line port_word p h
 
-length-placeLine : (start end : ℕ) → start ≤ end → end < 100000 → length (placeLine start end) ≤ 20
-unfolding placeLine
-length-placeLine start end h k =
-    length-smallPair payloadWord start space (end - start) (omega arith) (omega arith)
+length-place_line : (start end : ℕ) → start ≤ end → end < 100000 → length (place_line start end) ≤ 20
+unfolding place_line
+length-place_line start end h k =
+    length_small_pair payload_word start space (end - start) (omega arith) (omega arith)
 
-pub length-payloadLine : (p : FrmPayload) → Spans p → length (payloadLine p) ≤ 20
-unfolding payloadLine
-length-payloadLine Nothing h = omega arith
-length-payloadLine (PlainData start end) h = length-placeLine start end (h .0) (h .1)
-length-payloadLine (MacCommands start end) h = length-placeLine start end (h .0) (h .1)
+pub length-payload_line : (p : FrmPayload) → Spans p → length (payload_line p) ≤ 20
+unfolding payload_line
+length-payload_line Nothing h = omega arith
+length-payload_line (PlainData start end) h = length-place_line start end h.0 h.1
+length-payload_line (MacCommands start end) h = length-place_line start end h.0 h.1
 
-pub length-part : (i n : ℕ) (s : List ℕ) → length (part i n s) ≤ n
-length-part i n s = simp length-take (omega arith)
+pub length_part : (i n : ℕ) (s : List ℕ) → length (part i n s) ≤ n
+length_part i n s = simp length-take (omega arith)
 
 -- a line of a part of a frame
-pub length-partLine : (word : List ℕ) (i n : ℕ) (s : List ℕ) → length (hexLine word (part i n s)) ≤ length word + 2 * n + 1
-length-partLine word i n s = omega (arith, length-hexLine word (part i n s), length-part i n s)
+pub length_part_line : (word : List ℕ) (i n : ℕ) (s : List ℕ) → length (hex_line_of word (part i n s)) ≤ length word + 2 * n + 1
+length_part_line word i n s = omega (arith, length-hex_line_of word (part i n s), length_part i n s)
 
-pub length-micOf : (f : List ℕ) → length (micOf f) ≤ 4
-length-micOf f = simp length-drop (omega arith)
+pub length-mic_of_of : (f : List ℕ) → length (mic_of_of f) ≤ 4
+length-mic_of_of f = simp length-drop (omega arith)
 
 module _ (f : List ℕ) (d : DataFrame) (known : Fields f d) where
-  pub length-headerText : length (headerText f d) ≤ 45
-  unfolding headerText
-  length-headerText =
-      simp (length-append, length-hexLine)
+  pub length-header_text : length (header_text f d) ≤ 45
+  unfolding header_text
+  length-header_text =
+      simp (length-append, length-hex_line_of)
       (omega (
         arith,
-        length-smallLine typeWord (d .mtype) (known .type-small),
-        length-part 1 4 f,
-        length-smallLine fcntWord (d .fcnt) (known .fcnt-small),
+        length_small_line type_word d.mtype known.type_small,
+        length_part 1 4 f,
+        length_small_line fcnt_word d.fcnt known.fcnt_small,
       ))
 
-  length-restText : length (restText f d) ≤ 56
-  unfolding restText
-  length-restText =
-      simp (length-append, length-hexLine)
+  length-rest_text : length (rest_text f d) ≤ 56
+  unfolding rest_text
+  length-rest_text =
+      simp (length-append, length-hex_line_of)
       (omega (
         arith,
-        length-smallLine foptsWord (d .«fopts_end» - 8) (omega (arith, known .fopts-most)),
-        length-portLine (d .port) (known .port-small),
-        length-payloadLine (d .payload) (known .spans),
-        length-micOf f,
+        length_small_line fopts_word (d.fopts_end - 8) (omega (arith, known.fopts_most)),
+        length-port_line d.port known.port_small,
+        length-payload_line d.payload known.spans,
+        length-mic_of_of f,
       ))
 
-  length-dataText : length (dataText f d) ≤ 128
-  unfolding dataText
-  length-dataText = simp length-append (omega (arith, length-headerText, length-restText))
+  length-data_text : length (data_text f d) ≤ 128
+  unfolding data_text
+  length-data_text = simp length-append (omega (arith, length-header_text, length-rest_text))
 
-pub length-euisText : (f : List ℕ) → length (euisText f) ≤ 53
-length-euisText f =
-    simp (length-append, length-hexLine)
-    (omega (arith, length-smallLine typeWord 0 (omega arith), length-part 1 8 f, length-part 9 8 f))
+pub length-euis_text : (f : List ℕ) → length (euis_text f) ≤ 53
+length-euis_text f =
+    simp (length-append, length-hex_line_of)
+    (omega (arith, length_small_line type_word 0 (omega arith), length_part 1 8 f, length_part 9 8 f))
 
-length-joinRequestText : (f : List ℕ) → length (joinRequestText f) ≤ 77
-unfolding joinRequestText
-length-joinRequestText f =
-    simp (length-append, length-hexLine)
+length-join_request_text : (f : List ℕ) → length (join_request_text f) ≤ 77
+unfolding join_request_text
+length-join_request_text f =
+    simp (length-append, length-hex_line_of)
     (omega (
       arith,
-      length-smallLine typeWord 0 (omega arith),
-      length-part 1 8 f,
-      length-part 9 8 f,
-      length-part 17 2 f,
-      length-micOf f,
+      length_small_line type_word 0 (omega arith),
+      length_part 1 8 f,
+      length_part 9 8 f,
+      length_part 17 2 f,
+      length-mic_of_of f,
     ))
 
-length-joinAcceptText : (n : ℕ) → n < 100000 → length (joinAcceptText n) ≤ 24
-unfolding joinAcceptText
-length-joinAcceptText n h =
+length-join_accept_text : (n : ℕ) → n < 100000 → length (join_accept_text n) ≤ 24
+unfolding join_accept_text
+length-join_accept_text n h =
     simp length-append
-    (omega (arith, length-smallLine typeWord 1 (omega arith), length-smallLine lengthWord n h))
+    (omega (arith, length_small_line type_word 1 (omega arith), length_small_line length_word n h))
 
-pub length-refusalLine : (n p : ℕ) → length (pairLine refusedWord n atWord p) ≤ 53
-length-refusalLine n p =
+pub length_refusal_line : (n p : ℕ) → length (pair_line refused_word n at_word p) ≤ 53
+length_refusal_line n p =
     omega (
       arith,
-      length-pairLine refusedWord n atWord p,
-      length-append refusedWord (decimalOf n),
-      length-decimalOf n,
-      length-numberLine atWord p,
-      length-append atWord (decimalOf p),
-      length-decimalOf p,
+      length-pair_line refused_word n at_word p,
+      length-append refused_word (decimal_of n),
+      length-decimal_of n,
+      length-number_line at_word p,
+      length-append at_word (decimal_of p),
+      length-decimal_of p,
     )
 
-length-refusalText : (r : Refusal) → length (refusalText r) ≤ 53
-unfolding refusalText
-length-refusalText r = length-refusalLine (r .number) (r .place)
+length-refusal_text : (r : Refusal) → length (refusal_text r) ≤ 53
+unfolding refusal_text
+length-refusal_text r = length_refusal_line r.number r.place
 
 -- ---- every text has room in a buffer of 128 bytes
 
 module _ (f : List ℕ) (bytes : AreBytes f) where
-  length-textOfReading : (r : Reading) → readOf f ≡ r → length (textOfReading f r) ≤ 128
-  unfolding textOfReading
-  length-textOfReading JoinRequest e = omega (arith, length-joinRequestText f)
-  length-textOfReading (JoinAccept n) e =
-      let small : n < 100000 = ⊎-elim (λ q. omega arith) (λ q. omega arith) (accept-read f e .either) in
-      omega (arith, length-joinAcceptText n small)
-  length-textOfReading (Data d) e = length-dataText f d (fields f d bytes (data-read f e) (data-fields f e))
-  length-textOfReading (Refused r) e = omega (arith, length-refusalText r)
+  length-text_of_reading : (r : Reading) → read_of f ≡ r → length (text_of_reading f r) ≤ 128
+  unfolding text_of_reading
+  length-text_of_reading JoinRequest e = omega (arith, length-join_request_text f)
+  length-text_of_reading (JoinAccept n) e =
+      let small : n < 100000 = ⊎_elim (λ q. omega arith) (λ q. omega arith) (accept_read f e).either in
+      omega (arith, length-join_accept_text n small)
+  length-text_of_reading (Data d) e = length-data_text f d (fields f d bytes (data_read f e) (data_fields f e))
+  length-text_of_reading (Refused r) e = omega (arith, length-refusal_text r)
 
-  length-textOf : length (textOf f) ≤ 128
-  unfolding textOf
-  length-textOf = length-textOfReading (readOf f) refl
+  length-text_of : length (text_of f) ≤ 128
+  unfolding text_of
+  length-text_of = length-text_of_reading (read_of f) refl
 
-  pub length-textOfInput : (n : ℕ) → length (textOfInput f n) ≤ 128
-  unfolding textOfInput
-  length-textOfInput n =
-      by-order n 255 (λ h. simp (le-ltb 255 n h) length-textOf)
-      (λ h. simp (lt-ltb 255 n h) (omega (arith, length-refusalText (refusal 12 n))))
+  pub length-text_of_input : (n : ℕ) → length (text_of_input f n) ≤ 128
+  unfolding text_of_input
+  length-text_of_input n =
+      by_order n 255 (λ h. simp (le-ltb 255 n h) length-text_of)
+      (λ h. simp (lt-ltb 255 n h) (omega (arith, length-refusal_text (refusal 12 n))))

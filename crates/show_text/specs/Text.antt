@@ -1,101 +1,98 @@
 -- The text that `show` writes for a frame, from docs/RULES.md, Text: what stands in each line, byte by byte in ASCII.
 -- A line is a word, a value and a line end (10). Hex is lower case and in frame order, numbers are decimal.
 -- Assumes nothing.
-use mathlib.Core.List.{List, [], _∷_, _++_}
-use Prim.Native.Nat.{ℕ, zero, suc, _+_, _-_, _/_, _%_, _≤_, _<_}
-use lib.Dec.{ltb}
-use lib.ListN.{length, drop}
-use Rattle·base.specs.Bytes.{pick}
-use Rattle·frame.specs.Layout.{devAddr, micOf, appEui, devEui, devNonce}
-use Rattle·frame.specs.Reading.{readOf}
-use Rattle·frame.specs.Refusals.{refusal, refused, notRefused}
-use Rattle·frame.specs.declared.refusals.Refusal.{Refusal}
-use Rattle·frame.specs.declared.parser.FPort.{FPort}
-use Rattle·frame.specs.declared.parser.FPort.the-variants.{Absent, Port}
-use Rattle·frame.specs.declared.parser.FrmPayload.{FrmPayload}
-use Rattle·frame.specs.declared.parser.FrmPayload.the-variants.{Nothing, Data as PlainData, MacCommands}
-use Rattle·frame.specs.declared.parser.DataFrame.{DataFrame}
-use Rattle·frame.specs.declared.parser.Reading.{Reading}
-use Rattle·frame.specs.declared.parser.Reading.the-variants.{JoinRequest, JoinAccept, Data, Refused}
-use Rattle·show_text·specs.declared.Description.{Description}
+use Rattle.std.specs.Prelude.{List, [], ◌∷◌, ◌++◌, ℕ, zero, suc, ◌+◌, ◌-◌, ◌/◌, ◌%◌, ◌≤◌, ◌<◌, ltb, length, drop}
+use Rattle.base.specs.Bytes.{pick}
+use Rattle.frame.specs.Layout.{dev_addr_of, mic_of_of, app_eui_of, dev_eui_of, dev_nonce_of}
+use Rattle.frame.specs.Reading.{read_of}
+use Rattle.frame.specs.Refusals.{refusal, refused, not_refused}
+use Rattle.frame.specs.declared.refusals.Refusal.{Refusal}
+use Rattle.frame.specs.declared.parser.FPort.{FPort}
+use Rattle.frame.specs.declared.parser.FPort.TheVariants.{Absent, Port}
+use Rattle.frame.specs.declared.parser.FrmPayload.{FrmPayload}
+use Rattle.frame.specs.declared.parser.FrmPayload.TheVariants.{Nothing, Data as PlainData, MacCommands}
+use Rattle.frame.specs.declared.parser.DataFrame.{DataFrame}
+use Rattle.frame.specs.declared.parser.Reading.{Reading}
+use Rattle.frame.specs.declared.parser.Reading.TheVariants.{JoinRequest, JoinAccept, Data, Refused}
+use Rattle.show_text.specs.declared.Description.{Description}
 
 -- ---- digits
 
 -- the digit of a number below 16: 0 to 9 from 48 on, a to f from 97 on
-unfoldable pub digitOf : ℕ → ℕ
-digitOf n = pick (ltb n 10) (48 + n) (97 + (n - 10))
+unfoldable pub digit_of : ℕ → ℕ
+digit_of n = pick (ltb n 10) (48 + n) (97 + (n - 10))
 
 -- two digits for each byte
-unfoldable pub hexOf : List ℕ → List ℕ
-hexOf [] = []
-hexOf (b ∷ s) = digitOf (b / 16) ∷ digitOf (b % 16) ∷ hexOf s
+unfoldable pub hex_of : List ℕ → List ℕ
+hex_of [] = []
+hex_of (b ∷ s) = digit_of (b / 16) ∷ digit_of (b % 16) ∷ hex_of s
 
 -- the number in decimal, without leading zeros, if it has at most k digits; of a longer one the last k
-unfoldable pub decimalIn : ℕ → ℕ → List ℕ
-decimalIn zero n = []
-decimalIn (suc k) n = pick (ltb n 10) (digitOf n ∷ []) (decimalIn k (n / 10) ++ digitOf (n % 10) ∷ [])
+unfoldable pub decimal_in : ℕ → ℕ → List ℕ
+decimal_in zero n = []
+decimal_in (suc k) n = pick (ltb n 10) (digit_of n ∷ []) (decimal_in k (n / 10) ++ digit_of (n % 10) ∷ [])
 
 -- the number in decimal: one of 64 bits has at most twenty digits
-unfoldable pub decimalOf : ℕ → List ℕ
-decimalOf n = decimalIn 20 n
+unfoldable pub decimal_of : ℕ → List ℕ
+decimal_of n = decimal_in 20 n
 
 -- ---- words
 
 -- "type "
-abbrev pub typeWord : List ℕ
-typeWord = 116 ∷ 121 ∷ 112 ∷ 101 ∷ 32 ∷ []
+abbrev pub type_word : List ℕ
+type_word = 116 ∷ 121 ∷ 112 ∷ 101 ∷ 32 ∷ []
 
 -- "length "
-abbrev pub lengthWord : List ℕ
-lengthWord = 108 ∷ 101 ∷ 110 ∷ 103 ∷ 116 ∷ 104 ∷ 32 ∷ []
+abbrev pub length_word : List ℕ
+length_word = 108 ∷ 101 ∷ 110 ∷ 103 ∷ 116 ∷ 104 ∷ 32 ∷ []
 
 -- "addr "
-abbrev pub addrWord : List ℕ
-addrWord = 97 ∷ 100 ∷ 100 ∷ 114 ∷ 32 ∷ []
+abbrev pub addr_word : List ℕ
+addr_word = 97 ∷ 100 ∷ 100 ∷ 114 ∷ 32 ∷ []
 
 -- "fctrl "
-abbrev pub fctrlWord : List ℕ
-fctrlWord = 102 ∷ 99 ∷ 116 ∷ 114 ∷ 108 ∷ 32 ∷ []
+abbrev pub fctrl_word : List ℕ
+fctrl_word = 102 ∷ 99 ∷ 116 ∷ 114 ∷ 108 ∷ 32 ∷ []
 
 -- "fcnt "
-abbrev pub fcntWord : List ℕ
-fcntWord = 102 ∷ 99 ∷ 110 ∷ 116 ∷ 32 ∷ []
+abbrev pub fcnt_word : List ℕ
+fcnt_word = 102 ∷ 99 ∷ 110 ∷ 116 ∷ 32 ∷ []
 
 -- "fopts "
-abbrev pub foptsWord : List ℕ
-foptsWord = 102 ∷ 111 ∷ 112 ∷ 116 ∷ 115 ∷ 32 ∷ []
+abbrev pub fopts_word : List ℕ
+fopts_word = 102 ∷ 111 ∷ 112 ∷ 116 ∷ 115 ∷ 32 ∷ []
 
 -- "port "
-abbrev pub portWord : List ℕ
-portWord = 112 ∷ 111 ∷ 114 ∷ 116 ∷ 32 ∷ []
+abbrev pub port_word : List ℕ
+port_word = 112 ∷ 111 ∷ 114 ∷ 116 ∷ 32 ∷ []
 
 -- "payload "
-abbrev pub payloadWord : List ℕ
-payloadWord = 112 ∷ 97 ∷ 121 ∷ 108 ∷ 111 ∷ 97 ∷ 100 ∷ 32 ∷ []
+abbrev pub payload_word : List ℕ
+payload_word = 112 ∷ 97 ∷ 121 ∷ 108 ∷ 111 ∷ 97 ∷ 100 ∷ 32 ∷ []
 
 -- "mic "
-abbrev pub micWord : List ℕ
-micWord = 109 ∷ 105 ∷ 99 ∷ 32 ∷ []
+abbrev pub mic_word : List ℕ
+mic_word = 109 ∷ 105 ∷ 99 ∷ 32 ∷ []
 
 -- "app "
-abbrev pub appWord : List ℕ
-appWord = 97 ∷ 112 ∷ 112 ∷ 32 ∷ []
+abbrev pub app_word : List ℕ
+app_word = 97 ∷ 112 ∷ 112 ∷ 32 ∷ []
 
 -- "dev "
-abbrev pub devWord : List ℕ
-devWord = 100 ∷ 101 ∷ 118 ∷ 32 ∷ []
+abbrev pub dev_word : List ℕ
+dev_word = 100 ∷ 101 ∷ 118 ∷ 32 ∷ []
 
 -- "nonce "
-abbrev pub nonceWord : List ℕ
-nonceWord = 110 ∷ 111 ∷ 110 ∷ 99 ∷ 101 ∷ 32 ∷ []
+abbrev pub nonce_word : List ℕ
+nonce_word = 110 ∷ 111 ∷ 110 ∷ 99 ∷ 101 ∷ 32 ∷ []
 
 -- "refused "
-abbrev pub refusedWord : List ℕ
-refusedWord = 114 ∷ 101 ∷ 102 ∷ 117 ∷ 115 ∷ 101 ∷ 100 ∷ 32 ∷ []
+abbrev pub refused_word : List ℕ
+refused_word = 114 ∷ 101 ∷ 102 ∷ 117 ∷ 115 ∷ 101 ∷ 100 ∷ 32 ∷ []
 
 -- " at "
-abbrev pub atWord : List ℕ
-atWord = 32 ∷ 97 ∷ 116 ∷ 32 ∷ []
+abbrev pub at_word : List ℕ
+at_word = 32 ∷ 97 ∷ 116 ∷ 32 ∷ []
 
 -- "none"
 abbrev pub none : List ℕ
@@ -112,28 +109,28 @@ newline = 10 ∷ []
 abbrev pub line : List ℕ → List ℕ → List ℕ
 line word value = word ++ value ++ newline
 
-unfoldable pub hexLine : List ℕ → List ℕ → List ℕ
-hexLine word bytes = line word (hexOf bytes)
+unfoldable pub hex_line_of : List ℕ → List ℕ → List ℕ
+hex_line_of word bytes = line word (hex_of bytes)
 
-unfoldable pub numberLine : List ℕ → ℕ → List ℕ
-numberLine word n = line word (decimalOf n)
+unfoldable pub number_line : List ℕ → ℕ → List ℕ
+number_line word n = line word (decimal_of n)
 
-unfoldable pub portLine : FPort → List ℕ
-portLine Absent = line portWord none
-portLine (Port p) = numberLine portWord p
+unfoldable pub port_line : FPort → List ℕ
+port_line Absent = line port_word none
+port_line (Port p) = number_line port_word p
 
 -- two numbers, each after a word of its own
-unfoldable pub pairLine : List ℕ → ℕ → List ℕ → ℕ → List ℕ
-pairLine word m between n = word ++ decimalOf m ++ numberLine between n
+unfoldable pub pair_line : List ℕ → ℕ → List ℕ → ℕ → List ℕ
+pair_line word m between n = word ++ decimal_of m ++ number_line between n
 
 -- a place and a length
-unfoldable pub placeLine : ℕ → ℕ → List ℕ
-placeLine start end = pairLine payloadWord start space (end - start)
+unfoldable pub place_line : ℕ → ℕ → List ℕ
+place_line start end = pair_line payload_word start space (end - start)
 
-unfoldable pub payloadLine : FrmPayload → List ℕ
-payloadLine Nothing = line payloadWord none
-payloadLine (PlainData start end) = placeLine start end
-payloadLine (MacCommands start end) = placeLine start end
+unfoldable pub payload_line : FrmPayload → List ℕ
+payload_line Nothing = line payload_word none
+payload_line (PlainData start end) = place_line start end
+payload_line (MacCommands start end) = place_line start end
 
 -- a payload whose end is not ahead of its start, both below 100,000
 abbrev pub Spans : FrmPayload → Type 0
@@ -144,57 +141,57 @@ Spans (MacCommands start end) = (start ≤ end) × (end < 100000)
 -- ---- the texts
 
 -- a data frame: eight lines, four of them from the fixed places of its header
-unfoldable pub headerText : List ℕ → DataFrame → List ℕ
-headerText f d =
-    numberLine typeWord (d .mtype) ++ hexLine addrWord (devAddr f) ++ hexLine fctrlWord (d .fctrl ∷ [])
-    ++ numberLine fcntWord (d .fcnt)
+unfoldable pub header_text : List ℕ → DataFrame → List ℕ
+header_text f d =
+    number_line type_word d.mtype ++ hex_line_of addr_word (dev_addr_of f) ++ hex_line_of fctrl_word (d.fctrl ∷ [])
+    ++ number_line fcnt_word d.fcnt
 
-unfoldable pub restText : List ℕ → DataFrame → List ℕ
-restText f d =
-    numberLine foptsWord (d .«fopts_end» - 8) ++ portLine (d .port) ++ payloadLine (d .payload) ++ hexLine micWord (micOf f)
+unfoldable pub rest_text : List ℕ → DataFrame → List ℕ
+rest_text f d =
+    number_line fopts_word (d.fopts_end - 8) ++ port_line d.port ++ payload_line d.payload ++ hex_line_of mic_word (mic_of_of f)
 
-unfoldable pub dataText : List ℕ → DataFrame → List ℕ
-dataText f d = headerText f d ++ restText f d
+unfoldable pub data_text : List ℕ → DataFrame → List ℕ
+data_text f d = header_text f d ++ rest_text f d
 
 -- a join-request: AppEUI, DevEUI, DevNonce and MIC
-abbrev pub euisText : List ℕ → List ℕ
-euisText f = numberLine typeWord 0 ++ hexLine appWord (appEui f) ++ hexLine devWord (devEui f)
+abbrev pub euis_text : List ℕ → List ℕ
+euis_text f = number_line type_word 0 ++ hex_line_of app_word (app_eui_of f) ++ hex_line_of dev_word (dev_eui_of f)
 
-unfoldable pub joinRequestText : List ℕ → List ℕ
-joinRequestText f = euisText f ++ hexLine nonceWord (devNonce f) ++ hexLine micWord (micOf f)
+unfoldable pub join_request_text : List ℕ → List ℕ
+join_request_text f = euis_text f ++ hex_line_of nonce_word (dev_nonce_of f) ++ hex_line_of mic_word (mic_of_of f)
 
-unfoldable pub joinAcceptText : ℕ → List ℕ
-joinAcceptText n = numberLine typeWord 1 ++ numberLine lengthWord n
+unfoldable pub join_accept_text : ℕ → List ℕ
+join_accept_text n = number_line type_word 1 ++ number_line length_word n
 
 -- a refusal: its number and its place
-unfoldable pub refusalText : Refusal → List ℕ
-refusalText r = pairLine refusedWord (r .number) atWord (r .place)
+unfoldable pub refusal_text : Refusal → List ℕ
+refusal_text r = pair_line refused_word r.number at_word r.place
 
-unfoldable pub textOfReading : List ℕ → Reading → List ℕ
-textOfReading f JoinRequest = joinRequestText f
-textOfReading f (JoinAccept n) = joinAcceptText n
-textOfReading f (Data d) = dataText f d
-textOfReading f (Refused r) = refusalText r
+unfoldable pub text_of_reading : List ℕ → Reading → List ℕ
+text_of_reading f JoinRequest = join_request_text f
+text_of_reading f (JoinAccept n) = join_accept_text n
+text_of_reading f (Data d) = data_text f d
+text_of_reading f (Refused r) = refusal_text r
 
-unfoldable pub textOf : List ℕ → List ℕ
-textOf f = textOfReading f (readOf f)
+unfoldable pub text_of : List ℕ → List ℕ
+text_of f = text_of_reading f (read_of f)
 
 -- an input of n bytes that begins with start: up to 255 it is start, and more are too many, whatever they are
-unfoldable pub textOfInput : List ℕ → ℕ → List ℕ
-textOfInput start n = pick (ltb 255 n) (refusalText (refusal 12 n)) (textOf start)
+unfoldable pub text_of_input : List ℕ → ℕ → List ℕ
+text_of_input start n = pick (ltb 255 n) (refusal_text (refusal 12 n)) (text_of start)
 
 -- ---- the text in a lent buffer
 
 -- a buffer of so many bytes has room for every text
-abbrev pub textRoom : ℕ
-textRoom = 128
+abbrev pub text_room : ℕ
+text_room = 128
 
 -- what is answered: the text's length, or 7 where the buffer is too short
-unfoldable pub describedOf : List ℕ → List ℕ → Description
-describedOf text out =
-    pick (ltb (length out) textRoom) (record { refusal = refused 7; length = 0 })
-    (record { refusal = notRefused; length = length text })
+unfoldable pub described_of : List ℕ → List ℕ → Description
+described_of text out =
+    pick (ltb (length out) text_room) (record { refusal = refused 7; length = 0 })
+    (record { refusal = not_refused; length = length text })
 
 -- the buffer afterwards: the text at its start, and nothing changed where it is too short
-unfoldable pub describedIn : List ℕ → List ℕ → List ℕ
-describedIn text out = pick (ltb (length out) textRoom) out (text ++ drop (length text) out)
+unfoldable pub described_in : List ℕ → List ℕ → List ℕ
+described_in text out = pick (ltb (length out) text_room) out (text ++ drop (length text) out)

@@ -1,303 +1,302 @@
 -- MAC commands that are built into a data frame, in FOpts or on port 0, are read from it as those commands, at their places: said
 -- of every outcome that the builder's contract allows. A data frame that is not on port 0 has no list there.
 -- Assumes nothing.
-use mathlib.Core.Path.{_≡_, refl, sym, ap, ap₂, _∙_, subst}
+use mathlib.Core.Path.{◌≡◌, refl, sym, ap, ap₂, ◌∙◌, subst}
 use mathlib.Core.Bool.{Bool, true, false}
-use mathlib.Core.List.{List, [], _++_, append-assoc}
-use Prim.Native.Nat.{ℕ, _+_, _-_, _≤_}
+use mathlib.Core.List.{List, [], ◌++◌, append_assoc}
+use Prim.Native.Nat.{ℕ, ◌+◌, ◌-◌, ◌≤◌}
 use native.Mathlib.Omega.{arith}
-use denote.Ref.{now}
 use lib.ListN.{length, take, drop, length-append, length-take}
-use lib.Seq.{sets-eq, take-at, drop-at, take-add, take-take, length-take-le}
-use borrow.Author.Tests.{ne-eqb}
-use Rattle·base.specs.Bytes.{pick, part}
-use Rattle·base.proofs.Cases.{by-order}
-use Rattle·frame.specs.Conditions.{IsData}
-use Rattle·frame_bits.specs.Fctrl.{uplinkOf}
-use Rattle·frame.specs.Layout.{mtype, fhdrLength, headerEnd, header, payload, payloadStart, payloadEnd, micOf}
-use Rattle·frame.specs.Reading.{portOf, heldBy, payloadOf, dataOf, readOf}
-use Rattle·frame.specs.ReadingNumbers.{onData}
-use Rattle·frame.specs.declared.parser.FPort.{FPort}
-use Rattle·frame.specs.declared.parser.FPort.the-variants.{Absent, Port}
-use Rattle·frame.specs.declared.parser.FrmPayload.{FrmPayload}
-use Rattle·frame.specs.declared.parser.FrmPayload.the-variants.{Data as PlainData, MacCommands}
-use Rattle·frame.proofs.LayoutLaws.{length-header, length-payload}
-use Rattle·frame.proofs.LayoutLaws as layout
-use Rattle·frame.proofs.ReadingLaws.{data-read}
-use Rattle·frame.proofs.ReadingSteps.{port-absent}
-use Rattle·frame_security.specs.Security.{frameKey}
-use Rattle·frame_security.proofs.SecurityLaws.{crypted-long}
-use Rattle·frame_opening.specs.FrameOpening.{Result, decrypted}
-use Rattle·frame_build.specs.DataBuilding.{foptsOf, bodyOf, dataHeader}
-use Rattle·frame_security.specs.declared.sealing.Built.the-variants.{Frame}
-use Rattle·frame_build.specs.declared.creator.data_frame.DataParts.{DataParts}
-use Rattle·frame_build.proofs.creator.data_frame.build_data.Reads as build-data
-use Rattle·mac_commands.specs.InFrame.{onPort0, commandsFrom, commandsTo, listsOf, inFrame, foptsCommands, payloadCommands}
-use Rattle·mac_commands.specs.Lists.{listAt, bytesAll, Sent, no-more, placed, Output, writeAll}
-use Rattle·mac_commands.specs.declared.in_frame.CommandLists.{CommandLists}
-use Rattle·mac_commands.specs.declared.in_frame.InFrame.the-variants.{Lists, Refused as NoLists}
-use Rattle·mac_commands.specs.declared.maccommands.Command.{Command}
-use Rattle·mac_commands.proofs.ListLaws.{list-empty, list-back, all-written}
-use Rattle·theorems·specs.BuildingConditions.{NotPort0, absent, other}
-use Rattle·theorems·specs.CommandsInFrames.{listed, openedFrame, CommandsBack}
-use Rattle·theorems·specs.ReadBack.{Always, DataReadsBack}
-use Rattle·theorems·proofs.read_back.Built.{data-reads-back}
-use Rattle·theorems·proofs.read_back.Opened.{decrypted-header, decrypted-read}
-use Rattle·theorems·proofs.read_back.OpenedParts.{opened-decrypted}
-use Rattle·theorems·proofs.refusals.CommandRefusals.{lists-found}
-use Rattle·theorems·proofs.refusals.FirstDue.{apart}
+use lib.Seq.{sets-eq, take_at, drop_at, take-add, take-take, length-take-le}
+use borrow.Author.Tests.{ne_eqb}
+use Rattle.base.specs.Bytes.{pick, part}
+use Rattle.base.proofs.Cases.{by_order}
+use Rattle.frame.specs.Conditions.{IsData}
+use Rattle.frame_bits.specs.Fctrl.{uplink_of}
+use Rattle.frame.specs.Layout.{mtype, fhdr_length_of, header_end_of, header, payload, payload_start_of, payload_end_of, mic_of_of}
+use Rattle.frame.specs.Reading.{port_of_of, held_by_of, payload_of, data_of, read_of}
+use Rattle.frame.specs.ReadingNumbers.{on_data}
+use Rattle.frame.specs.declared.parser.FPort.{FPort}
+use Rattle.frame.specs.declared.parser.FPort.TheVariants.{Absent, Port}
+use Rattle.frame.specs.declared.parser.FrmPayload.{FrmPayload}
+use Rattle.frame.specs.declared.parser.FrmPayload.TheVariants.{Data as PlainData, MacCommands}
+use Rattle.frame.proofs.LayoutLaws.{length-header, length-payload}
+use Rattle.frame.proofs.LayoutLaws as layout
+use Rattle.frame.proofs.ReadingLaws.{data_read}
+use Rattle.frame.proofs.ReadingSteps.{port_absent}
+use Rattle.frame_security.specs.Security.{frame_key}
+use Rattle.frame_security.proofs.SecurityLaws.{crypted_long}
+use Rattle.frame_opening.specs.FrameOpening.{Result, decrypted}
+use Rattle.frame_build.specs.DataBuilding.{fopts_of, body_of, data_header}
+use Rattle.frame_security.specs.declared.sealing.Built.TheVariants.{Frame}
+use Rattle.frame_build.specs.declared.creator.data_frame.DataParts.{DataParts}
+use Rattle.frame_build.proofs.creator.data_frame.build_data.Reads as build_data_lem
+use Rattle.mac_commands.specs.InFrame.{on_port0, commands_from, commands_to, lists_of, in_frame_of, fopts_commands, payload_commands}
+use Rattle.mac_commands.specs.Lists.{list_at, bytes_all, Sent, no_more, placed, Output, write_all}
+use Rattle.mac_commands.specs.declared.in_frame.CommandLists.{CommandLists}
+use Rattle.mac_commands.specs.declared.in_frame.InFrame.TheVariants.{Lists, Refused as NoLists}
+use Rattle.mac_commands.specs.declared.maccommands.Command.{Command}
+use Rattle.mac_commands.proofs.ListLaws.{list_empty, list_back, all_written}
+use Rattle.theorems.specs.BuildingConditions.{NotPort0, absent, other}
+use Rattle.theorems.specs.CommandsInFrames.{listed, opened_frame, CommandsBack}
+use Rattle.theorems.specs.ReadBack.{Always, DataReadsBack}
+use Rattle.theorems.proofs.read_back.Built.{data_reads_back}
+use Rattle.theorems.proofs.read_back.Opened.{decrypted-header, decrypted_read}
+use Rattle.theorems.proofs.read_back.OpenedParts.{opened_decrypted}
+use Rattle.theorems.proofs.refusals.CommandRefusals.{lists_found}
+use Rattle.theorems.proofs.refusals.FirstDue.{apart}
 
 -- ---- a list that stands at a place of a frame
 
 drop-take : (a n : ℕ) (f : List ℕ) → a ≤ length f → drop a (take (a + n) f) ≡ part a n f
-drop-take a n f h = ap (drop a) (take-add a n f) ∙ drop-at (take a f) (part a n f) a (length-take-le a f h)
+drop-take a n f h = ap (drop a) (take-add a n f) ∙ drop_at (take a f) (part a n f) a (length-take-le a f h)
 
-stands : (up : Bool) (cs : List Command) (f : List ℕ) (a e : ℕ) → Sent up cs → a ≤ length f → e ≡ a + length (bytesAll cs)
-    → part a (length (bytesAll cs)) f ≡ bytesAll cs → listAt up (take e f) a ≡ listed a cs
+stands : (up : Bool) (cs : List Command) (f : List ℕ) (a e : ℕ) → Sent up cs → a ≤ length f → e ≡ a + length (bytes_all cs)
+    → part a (length (bytes_all cs)) f ≡ bytes_all cs → list_at up (take e f) a ≡ listed a cs
 stands up cs f a e m l z h =
-    list-back up cs (take e f) a m
-    (ap (λ (k : ℕ). drop a (take k f)) z ∙ drop-take a (length (bytesAll cs)) f l ∙ h)
+    list_back up cs (take e f) a m
+    (ap (λ (k : ℕ). drop a (take k f)) z ∙ drop-take a (length (bytes_all cs)) f l ∙ h)
 
 -- ---- a payload that is no list of commands
 
 -- its list begins and ends at the MIC
 record NoList (p : FrmPayload) (mic : ℕ) : Type 0 where
-  pub none : onPort0 p ≡ false
-  pub start : commandsFrom p mic ≡ mic
-  pub end : commandsTo p mic ≡ mic
+  pub none : on_port0 p ≡ false
+  pub start : commands_from p mic ≡ mic
+  pub end : commands_to p mic ≡ mic
 
-no-list : (port : FPort) (s e mic : ℕ) → NotPort0 port → NoList (heldBy port s e) mic
-no-list port s e mic (absent q) =
-    subst (λ (t : FPort). NoList (heldBy t s e) mic) (sym q) (record { none = refl; start = refl; end = refl })
-no-list port s e mic (other p q n) =
-    subst (λ (t : FPort). NoList (heldBy t s e) mic) (sym q)
-    (subst (λ (b : Bool). NoList (pick b (MacCommands s e) (PlainData s e)) mic) (sym (ne-eqb p 0 n))
+no_list : (port : FPort) (s e mic : ℕ) → NotPort0 port → NoList (held_by_of port s e) mic
+no_list port s e mic (absent q) =
+    subst (λ (t : FPort). NoList (held_by_of t s e) mic) (sym q) (record { none = refl; start = refl; end = refl })
+no_list port s e mic (other p q n) =
+    subst (λ (t : FPort). NoList (held_by_of t s e) mic) (sym q)
+    (subst (λ (b : Bool). NoList (pick b (MacCommands s e) (PlainData s e)) mic) (sym (ne_eqb p 0 n))
     (record { none = refl; start = refl; end = refl }))
 
 -- of any bytes g, by the lists of the frame f
-module _ (f g : List ℕ) (not-0 : NotPort0 (portOf f)) where
-  without : NoList (payloadOf f) (length f - 4)
-  unfolding payloadOf
-  without = no-list (portOf f) (payloadStart f) (payloadEnd f) (length f - 4) not-0
+module _ (f g : List ℕ) (not_0 : NotPort0 (port_of_of f)) where
+  without : NoList (payload_of f) (length f - 4)
+  unfolding payload_of
+  without = no_list (port_of_of f) (payload_start_of f) (payload_end_of f) (length f - 4) not_0
 
-  not-there : listsOf (dataOf f) .«on_port_0» ≡ false
-  unfolding listsOf dataOf
-  not-there = without .none
+  not_there : (lists_of (data_of f)).on_port_0 ≡ false
+  unfolding lists_of data_of
+  not_there = without.none
 
-  empty-there : payloadCommands (listsOf (dataOf f)) g ≡ listed (listsOf (dataOf f) .«payload_start») []
-  unfolding listsOf dataOf placed
-  empty-there =
-      let e : commandsTo (payloadOf f) (length f - 4) ≡ commandsFrom (payloadOf f) (length f - 4) = without .end ∙ sym (without .start) in
-      list-empty (uplinkOf (mtype f)) (take (commandsTo (payloadOf f) (length f - 4)) g) (commandsFrom (payloadOf f) (length f - 4))
-      (omega (arith, length-take (commandsTo (payloadOf f) (length f - 4)) g))
+  empty_there : payload_commands (lists_of (data_of f)) g ≡ listed (lists_of (data_of f)).payload_start []
+  unfolding lists_of data_of placed
+  empty_there =
+      let e : commands_to (payload_of f) (length f - 4) ≡ commands_from (payload_of f) (length f - 4) = without.end ∙ sym without.start in
+      list_empty (uplink_of (mtype f)) (take (commands_to (payload_of f) (length f - 4)) g) (commands_from (payload_of f) (length f - 4))
+      (omega (arith, length-take (commands_to (payload_of f) (length f - 4)) g))
 
 -- a frame that is not on port 0 has no list there
-pub no-port-0 : (f : List ℕ) (l : CommandLists) → inFrame f ≡ Lists l → NotPort0 (portOf f)
-    → (l .«on_port_0» ≡ false) × (payloadCommands l f ≡ listed (l .«payload_start») [])
-no-port-0 f l e p =
-    let its : l ≡ listsOf (dataOf f) = lists-found f l .there e .1 in (
-      ap (λ (x : CommandLists). x .«on_port_0») its ∙ not-there f f p,
-      ap (λ (x : CommandLists). payloadCommands x f) its
-          ∙ empty-there f f p
-          ∙ ap (λ (x : CommandLists). listed (x .«payload_start») []) (sym its),
+pub no_port_0 : (f : List ℕ) (l : CommandLists) → in_frame_of f ≡ Lists l → NotPort0 (port_of_of f)
+    → (l.on_port_0 ≡ false) × (payload_commands l f ≡ listed l.payload_start [])
+no_port_0 f l e p =
+    let its : l ≡ lists_of (data_of f) = ((lists_found f l).there e).1 in (
+      ap (λ (x : CommandLists). x.on_port_0) its ∙ not_there f f p,
+      ap (λ (x : CommandLists). payload_commands x f) its
+          ∙ empty_there f f p
+          ∙ ap (λ (x : CommandLists). listed x.payload_start []) (sym its),
     )
 
 -- ---- a frame that was built, with the bytes of the commands cs
 
 -- the direction is that of the parts
-up-back : (c u : Bool) → uplinkOf (pick c 4 2 + pick u 0 1) ≡ u
-up-back true true = refl
-up-back true false = refl
-up-back false true = refl
-up-back false false = refl
+up_back : (c u : Bool) → uplink_of (pick c 4 2 + pick u 0 1) ≡ u
+up_back true true = refl
+up_back true false = refl
+up_back false true = refl
+up_back false false = refl
 
 -- where the commands go, by the port
-to-fopts : (port : FPort) (commands : List ℕ) → NotPort0 port → foptsOf port commands ≡ commands
-to-fopts port commands (absent e) = ap (λ (p : FPort). foptsOf p commands) e
-to-fopts port commands (other q e n) =
-    ap (λ (p : FPort). foptsOf p commands) e ∙ ap (λ (b : Bool). pick b [] commands) (ne-eqb q 0 n)
+to_fopts : (port : FPort) (commands : List ℕ) → NotPort0 port → fopts_of port commands ≡ commands
+to_fopts port commands (absent e) = ap (λ (p : FPort). fopts_of p commands) e
+to_fopts port commands (other q e n) =
+    ap (λ (p : FPort). fopts_of p commands) e ∙ ap (λ (b : Bool). pick b [] commands) (ne_eqb q 0 n)
 
 -- a port that is reported has its byte
-port-byte : (f : List ℕ) (q : ℕ) → portOf f ≡ Port q → fhdrLength f + 6 ≤ length f
-port-byte f q e =
-    by-order (fhdrLength f + 6) (length f) (λ l. l)
+port_byte : (f : List ℕ) (q : ℕ) → port_of_of f ≡ Port q → fhdr_length_of f + 6 ≤ length f
+port_byte f q e =
+    by_order (fhdr_length_of f + 6) (length f) (λ l. l)
     (λ l.
-    let none : portOf f ≡ Absent = port-absent f l in
+    let none : port_of_of f ≡ Absent = port_absent f l in
     apart (cc))
 
 -- a list between what stands before and after it
 between : (h b m : List ℕ) → part (length h) (length b) (h ++ (b ++ m)) ≡ b
-between h b m = ap (take (length b)) (drop-at h (b ++ m) (length h) refl) ∙ take-at b m (length b) refl
+between h b m = ap (take (length b)) (drop_at h (b ++ m) (length h) refl) ∙ take_at b m (length b) refl
 
-module _ (nwk app : List ℕ) (d : DataParts) (cs : List Command) (body f : List ℕ) (sent : Sent (d .uplink) cs)
-    (b : DataReadsBack nwk app d (bytesAll cs) body f) where
-  is-data : IsData f
-  is-data = data-read f (b .back .reads)
+module _ (nwk app : List ℕ) (d : DataParts) (cs : List Command) (body f : List ℕ) (sent : Sent d.uplink cs)
+    (b : DataReadsBack nwk app d (bytes_all cs) body f) where
+  is_data : IsData f
+  is_data = data_read f b.back.reads
 
   -- what it is opened to
   g : List ℕ
-  g = openedFrame nwk app (d .fcnt) f
+  g = opened_frame nwk app d.fcnt f
 
-  g-decrypted : g ≡ decrypted (frameKey f nwk app) (d .fcnt) f
+  g_decrypted : g ≡ decrypted (frame_key f nwk app) d.fcnt f
   unfolding g
-  g-decrypted = ap (λ (r : Result). r .bytes) (opened-decrypted nwk app f (d .fcnt) is-data)
+  g_decrypted = ap (λ (r : Result). r.bytes) (opened_decrypted nwk app f d.fcnt is_data)
 
-  g-parts : g ≡ dataHeader d (bytesAll cs) ++ (bodyOf (d .port) (bytesAll cs) body ++ micOf f)
+  g_parts : g ≡ data_header d (bytes_all cs) ++ (body_of d.port (bytes_all cs) body ++ mic_of_of f)
   unfolding g
-  g-parts =
-      ap (λ (r : Result). r .bytes) (b .opens .opens)
-      ∙ append-assoc (dataHeader d (bytesAll cs)) (bodyOf (d .port) (bytesAll cs) body) (micOf f)
+  g_parts =
+      ap (λ (r : Result). r.bytes) b.opens.opens
+      ∙ append_assoc (data_header d (bytes_all cs)) (body_of d.port (bytes_all cs) body) (mic_of_of f)
 
   -- both have the same lists
   abbrev its : CommandLists
-  its = listsOf (dataOf f)
+  its = lists_of (data_of f)
 
-  f-found : inFrame f ≡ Lists its
-  unfolding inFrame
-  f-found = ap (onData (λ x. Lists (listsOf x)) NoLists) (b .back .reads)
+  f_found : in_frame_of f ≡ Lists its
+  unfolding in_frame_of
+  f_found = ap (on_data (λ x. Lists (lists_of x)) NoLists) b.back.reads
 
-  g-found : inFrame g ≡ Lists its
-  unfolding inFrame
-  g-found =
-      ap (onData (λ x. Lists (listsOf x)) NoLists)
-      (ap readOf g-decrypted ∙ decrypted-read (frameKey f nwk app) f (d .fcnt) is-data ∙ b .back .reads)
+  g_found : in_frame_of g ≡ Lists its
+  unfolding in_frame_of
+  g_found =
+      ap (on_data (λ x. Lists (lists_of x)) NoLists)
+      (ap read_of g_decrypted ∙ decrypted_read (frame_key f nwk app) f d.fcnt is_data ∙ b.back.reads)
 
-  upward : uplinkOf (mtype f) ≡ d .uplink
-  upward = ap uplinkOf (b .back .type) ∙ up-back (d .confirmed) (d .uplink)
+  upward : uplink_of (mtype f) ≡ d.uplink
+  upward = ap uplink_of b.back.type ∙ up_back d.confirmed d.uplink
 
   -- ---- FOpts
 
-  fopts-hold : (xs : List Command) → Sent (d .uplink) xs → foptsOf (d .port) (bytesAll cs) ≡ bytesAll xs
-      → foptsCommands its f ≡ listed 8 xs
-  unfolding listsOf dataOf
-  fopts-hold xs m e =
-      ap (λ (u : Bool). listAt u (take (1 + fhdrLength f) f) 8) upward
-      ∙ stands (d .uplink) xs f 8 (1 + fhdrLength f) m (omega (arith, is-data .least))
-      (b .back .fopts-end ∙ ap (λ (l : List ℕ). 8 + length l) e)
-      (ap (λ (l : List ℕ). part 8 (length l) f) (sym e) ∙ b .back .fopts ∙ e)
+  fopts_hold : (xs : List Command) → Sent d.uplink xs → fopts_of d.port (bytes_all cs) ≡ bytes_all xs
+      → fopts_commands its f ≡ listed 8 xs
+  unfolding lists_of data_of
+  fopts_hold xs m e =
+      ap (λ (u : Bool). list_at u (take (1 + fhdr_length_of f) f) 8) upward
+      ∙ stands d.uplink xs f 8 (1 + fhdr_length_of f) m (omega (arith, is_data.least))
+      (b.back.fopts_end_lem ∙ ap (λ (l : List ℕ). 8 + length l) e)
+      (ap (λ (l : List ℕ). part 8 (length l) f) (sym e) ∙ b.back.fopts ∙ e)
 
   -- opening leaves the header as it was
-  same-fopts : take (1 + fhdrLength f) g ≡ take (1 + fhdrLength f) f
-  same-fopts =
-      let l : 1 + fhdrLength f ≤ headerEnd f = layout.placed f is-data .fopts in
-      ap (take (1 + fhdrLength f)) g-decrypted
-      ∙ sym (take-take (1 + fhdrLength f) (headerEnd f) (decrypted (frameKey f nwk app) (d .fcnt) f) l)
-      ∙ ap (take (1 + fhdrLength f)) (decrypted-header (frameKey f nwk app) f (d .fcnt) is-data)
-      ∙ take-take (1 + fhdrLength f) (headerEnd f) f l
+  same_fopts : take (1 + fhdr_length_of f) g ≡ take (1 + fhdr_length_of f) f
+  same_fopts =
+      let l : 1 + fhdr_length_of f ≤ header_end_of f = (layout.placed f is_data).fopts in
+      ap (take (1 + fhdr_length_of f)) g_decrypted
+      ∙ sym (take-take (1 + fhdr_length_of f) (header_end_of f) (decrypted (frame_key f nwk app) d.fcnt f) l)
+      ∙ ap (take (1 + fhdr_length_of f)) (decrypted-header (frame_key f nwk app) f d.fcnt is_data)
+      ∙ take-take (1 + fhdr_length_of f) (header_end_of f) f l
 
-  opened-fopts : foptsCommands its g ≡ foptsCommands its f
-  unfolding listsOf dataOf
-  opened-fopts = ap (λ (l : List ℕ). listAt (uplinkOf (mtype f)) l 8) same-fopts
+  opened_fopts : fopts_commands its g ≡ fopts_commands its f
+  unfolding lists_of data_of
+  opened_fopts = ap (λ (l : List ℕ). list_at (uplink_of (mtype f)) l 8) same_fopts
 
   -- ---- the payload
 
   -- none on another port
-  other-port : NotPort0 (d .port) → NotPort0 (portOf f)
-  other-port p = subst (λ (t : FPort). NotPort0 t) (sym (b .back .port)) p
+  other_port : NotPort0 d.port → NotPort0 (port_of_of f)
+  other_port p = subst (λ (t : FPort). NotPort0 t) (sym b.back.port) p
 
   -- on port 0 those that were given
-  module _ (zero : d .port ≡ Port 0) where
-    as-body : bodyOf (d .port) (bytesAll cs) body ≡ bytesAll cs
-    as-body = ap (λ (p : FPort). bodyOf p (bytesAll cs) body) zero
+  module _ (zero : d.port ≡ Port 0) where
+    as_body : body_of d.port (bytes_all cs) body ≡ bytes_all cs
+    as_body = ap (λ (p : FPort). body_of p (bytes_all cs) body) zero
 
-    no-fopts : foptsOf (d .port) (bytesAll cs) ≡ bytesAll []
-    unfolding bytesAll
-    no-fopts = ap (λ (p : FPort). foptsOf p (bytesAll cs)) zero
+    no_fopts : fopts_of d.port (bytes_all cs) ≡ bytes_all []
+    unfolding bytes_all
+    no_fopts = ap (λ (p : FPort). fopts_of p (bytes_all cs)) zero
 
-    payload-long : length (payload f) ≡ length (bytesAll cs)
-    payload-long =
-        sym (crypted-long (frameKey f nwk app) (header f) (d .fcnt) (payload f))
-        ∙ ap length (b .back .payload-back ∙ as-body)
+    payload_long : length (payload f) ≡ length (bytes_all cs)
+    payload_long =
+        sym (crypted_long (frame_key f nwk app) (header f) d.fcnt (payload f))
+        ∙ ap length (b.back.payload_back ∙ as_body)
 
-    header-long : length (dataHeader d (bytesAll cs)) ≡ headerEnd f
-    header-long = sym (ap length (b .back .header-back)) ∙ length-header f
+    header_long : length (data_header d (bytes_all cs)) ≡ header_end_of f
+    header_long = sym (ap length b.back.header_back) ∙ length-header f
 
-    on-0 : portOf f ≡ Port 0
-    on-0 = b .back .port ∙ zero
+    on_0 : port_of_of f ≡ Port 0
+    on_0 = b.back.port ∙ zero
 
-    held : payloadOf f ≡ MacCommands (payloadStart f) (payloadEnd f)
-    unfolding payloadOf
-    held = ap (λ (t : FPort). heldBy t (payloadStart f) (payloadEnd f)) on-0
+    held : payload_of f ≡ MacCommands (payload_start_of f) (payload_end_of f)
+    unfolding payload_of
+    held = ap (λ (t : FPort). held_by_of t (payload_start_of f) (payload_end_of f)) on_0
 
-    there : its .«on_port_0» ≡ true
-    unfolding listsOf dataOf
-    there = ap onPort0 held
+    there : its.on_port_0 ≡ true
+    unfolding lists_of data_of
+    there = ap on_port0 held
 
-    all-held : payloadCommands its g ≡ listed (its .«payload_start») cs
-    unfolding listsOf dataOf
-    all-held =
-        let byte : fhdrLength f + 6 ≤ length f = port-byte f 0 on-0 in
-        let long : payloadEnd f - headerEnd f ≡ length (bytesAll cs) = sym (length-payload f) ∙ payload-long in
-        let start : headerEnd f ≡ payloadStart f = omega arith in
-        let end : payloadEnd f ≡ payloadStart f + length (bytesAll cs) = omega arith in
-        let parts : g ≡ dataHeader d (bytesAll cs) ++ (bytesAll cs ++ micOf f) =
-        g-parts ∙ ap (λ (l : List ℕ). dataHeader d (bytesAll cs) ++ (l ++ micOf f)) as-body in
-        let all : length g ≡ length (dataHeader d (bytesAll cs)) + length (bytesAll cs ++ micOf f) =
-        ap length parts ∙ length-append (dataHeader d (bytesAll cs)) (bytesAll cs ++ micOf f) in
-        let there : part (payloadStart f) (length (bytesAll cs)) g ≡ bytesAll cs =
-        ap₂ (λ (k : ℕ) (l : List ℕ). part k (length (bytesAll cs)) l) (sym (header-long ∙ start)) parts
-        ∙ between (dataHeader d (bytesAll cs)) (bytesAll cs) (micOf f) in
-        ap (λ (p : FrmPayload). listAt (uplinkOf (mtype f)) (take (commandsTo p (length f - 4)) g) (commandsFrom p (length f - 4))) held
-        ∙ ap (λ (u : Bool). listAt u (take (payloadEnd f) g) (payloadStart f)) upward
-        ∙ stands (d .uplink) cs g (payloadStart f) (payloadEnd f) sent (omega (arith, header-long)) end there
-        ∙ ap (λ (p : FrmPayload). listed (commandsFrom p (length f - 4)) cs) (sym held)
+    all_held : payload_commands its g ≡ listed its.payload_start cs
+    unfolding lists_of data_of
+    all_held =
+        let byte : fhdr_length_of f + 6 ≤ length f = port_byte f 0 on_0 in
+        let long : payload_end_of f - header_end_of f ≡ length (bytes_all cs) = sym (length-payload f) ∙ payload_long in
+        let start : header_end_of f ≡ payload_start_of f = omega arith in
+        let end : payload_end_of f ≡ payload_start_of f + length (bytes_all cs) = omega arith in
+        let parts : g ≡ data_header d (bytes_all cs) ++ (bytes_all cs ++ mic_of_of f) =
+        g_parts ∙ ap (λ (l : List ℕ). data_header d (bytes_all cs) ++ (l ++ mic_of_of f)) as_body in
+        let all : length g ≡ length (data_header d (bytes_all cs)) + length (bytes_all cs ++ mic_of_of f) =
+        ap length parts ∙ length-append (data_header d (bytes_all cs)) (bytes_all cs ++ mic_of_of f) in
+        let there : part (payload_start_of f) (length (bytes_all cs)) g ≡ bytes_all cs =
+        ap₂ (λ (k : ℕ) (l : List ℕ). part k (length (bytes_all cs)) l) (sym (header_long ∙ start)) parts
+        ∙ between (data_header d (bytes_all cs)) (bytes_all cs) (mic_of_of f) in
+        ap (λ (p : FrmPayload). list_at (uplink_of (mtype f)) (take (commands_to p (length f - 4)) g) (commands_from p (length f - 4))) held
+        ∙ ap (λ (u : Bool). list_at u (take (payload_end_of f) g) (payload_start_of f)) upward
+        ∙ stands d.uplink cs g (payload_start_of f) (payload_end_of f) sent (omega (arith, header_long)) end there
+        ∙ ap (λ (p : FrmPayload). listed (commands_from p (length f - 4)) cs) (sym held)
 
-  commands-back : CommandsBack nwk app d cs f
+  commands_back : CommandsBack nwk app d cs f
   unfolding g
-  commands-back =
+  commands_back =
       record {
-        in-fopts =
+        in_fopts_lem =
             λ p.
             record {
               lists = its;
-              found = f-found;
-              fopts = fopts-hold cs sent (to-fopts (d .port) (bytesAll cs) p);
-              port-0 = not-there f f (other-port p);
-              payload = empty-there f f (other-port p);
+              found = f_found;
+              fopts = fopts_hold cs sent (to_fopts d.port (bytes_all cs) p);
+              port_0 = not_there f f (other_port p);
+              payload = empty_there f f (other_port p);
             };
-        in-fopts-opened =
+        in_fopts_opened =
             λ p.
             record {
               lists = its;
-              found = g-found;
-              fopts = opened-fopts ∙ fopts-hold cs sent (to-fopts (d .port) (bytesAll cs) p);
-              port-0 = not-there f g (other-port p);
-              payload = empty-there f g (other-port p);
+              found = g_found;
+              fopts = opened_fopts ∙ fopts_hold cs sent (to_fopts d.port (bytes_all cs) p);
+              port_0 = not_there f g (other_port p);
+              payload = empty_there f g (other_port p);
             };
-        on-port-0 =
+        on_port_0_lem =
             λ z.
             record {
               lists = its;
-              found = g-found;
-              fopts = opened-fopts ∙ fopts-hold [] no-more (no-fopts z);
-              port-0 = there z;
-              payload = all-held z;
+              found = g_found;
+              fopts = opened_fopts ∙ fopts_hold [] no_more (no_fopts z);
+              port_0 = there z;
+              payload = all_held z;
             };
       }
 
 -- ---- the theorem
 
 -- what the call that writes one command leaves, made for each of them in turn, are their bytes
-pub written-bytes : (up : Bool) (cs : List Command) (l : List ℕ) (i : ℕ) → Sent up cs → i + length (bytesAll cs) ≤ length l
-    → part i (length (bytesAll cs)) (writeAll cs l i .bytes) ≡ bytesAll cs
-written-bytes up cs l i m h =
-    let t = bytesAll cs in
+pub written_bytes : (up : Bool) (cs : List Command) (l : List ℕ) (i : ℕ) → Sent up cs → i + length (bytes_all cs) ≤ length l
+    → part i (length (bytes_all cs)) (write_all cs l i).bytes ≡ bytes_all cs
+written_bytes up cs l i m h =
+    let t = bytes_all cs in
     let rest = drop (i + length t) l in
-    ap (λ (o : Output). part i (length t) (o .bytes)) (all-written up cs l i m h)
-    ∙ ap (part i (length t)) (sets-eq t l i h ∙ append-assoc (take i l) t rest)
-    ∙ ap (take (length t)) (drop-at (take i l) (t ++ rest) i (length-take-le i l (omega arith)))
-    ∙ take-at t rest (length t) refl
+    ap (λ (o : Output). part i (length t) o.bytes) (all_written up cs l i m h)
+    ∙ ap (part i (length t)) (sets-eq t l i h ∙ append_assoc (take i l) t rest)
+    ∙ ap (take (length t)) (drop_at (take i l) (t ++ rest) i (length-take-le i l (omega arith)))
+    ∙ take_at t rest (length t) refl
 
 -- and where the builder is given the bytes of commands in the frame's direction, they are read back
-pub commands-read-back : Always build-data.Learnt
+pub commands_read_back : Always build_data_lem.Learnt
     (λ κs a r s.
-    (n : ℕ) → r ≡ Frame n → (cs : List Command) → now (a .1 .0) ≡ bytesAll cs → Sent (a .0 .uplink) cs
-    → CommandsBack (a .1 .1 .1 .0) (a .1 .1 .1 .1 .0) (a .0) cs (take n (now (s .1 .1 .1 .1 .1 .0))))
-commands-read-back κs a r s p n q cs e sent =
-    let d = a .0 in
-    let body = now (a .1 .1 .0) in
-    let nwk = a .1 .1 .1 .0 in
-    let app = a .1 .1 .1 .1 .0 in
-    let f = take n (now (s .1 .1 .1 .1 .1 .0)) in
-    commands-back nwk app d cs body f sent
-    (subst (λ (l : List ℕ). DataReadsBack nwk app d l body f) e (data-reads-back κs a r s p n q))
+    (n : ℕ) → r ≡ Frame n → (cs : List Command) → a.1.0.now ≡ bytes_all cs → Sent a.0.uplink cs
+    → CommandsBack a.1.1.1.0 a.1.1.1.1.0 a.0 cs (take n s.1.1.1.1.1.0.now))
+commands_read_back κs a r s p n q cs e sent =
+    let d = a.0 in
+    let body = a.1.1.0.now in
+    let nwk = a.1.1.1.0 in
+    let app = a.1.1.1.1.0 in
+    let f = take n s.1.1.1.1.1.0.now in
+    commands_back nwk app d cs body f sent
+    (subst (λ (l : List ℕ). DataReadsBack nwk app d l body f) e (data_reads_back κs a r s p n q))

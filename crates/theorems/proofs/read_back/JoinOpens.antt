@@ -1,72 +1,72 @@
 -- What was built passes its MIC test and opens: a join-request passes and gives its fields; a join-accept opens, checked, to bytes
 -- that are read as a join-accept, pass and give its fields. What `JoinParts` shows of the parts, said of what the calls answer.
 -- Assumes nothing.
-use mathlib.Core.Path.{_≡_, sym, ap, subst, _∙_}
+use mathlib.Core.Path.{◌≡◌, sym, ap, subst, ◌∙◌}
 use mathlib.Core.Bool.{Bool}
 use mathlib.Core.List.{List}
 use Prim.Native.Nat.{ℕ}
-use Rattle·base.specs.Bytes.{pick}
-use Rattle·frame.specs.Conditions.{IsJoinAccept}
-use Rattle·frame.specs.JoinFields.{requestFields, noRequest, acceptFields, noAccept, joinAcceptFields}
-use Rattle·frame.specs.Layout.{micOf}
-use Rattle·frame.specs.Reading.{readOf}
-use Rattle·frame.specs.ReadingNumbers.{onRequest, onAccept}
-use Rattle·frame.specs.Refusals.{refused}
-use Rattle·frame.specs.declared.parser.Reading.the-variants.{JoinAccept}
-use Rattle·frame.proofs.ReadingLaws.{request-read, accept-read}
-use Rattle·frame_opening.specs.FrameOpening.{Result, result, unopened, joinPasses, joinAcceptTest}
-use Rattle·frame_opening.specs.CheckedOpening.{acceptTested, acceptOpenedChecked}
-use Rattle·frame_security.specs.JoinAcceptCipher.{acceptDecrypted}
-use Rattle·frame_security.specs.Security.{covered, joinMic}
-use Rattle·frame_opening.specs.declared.mic_tests.MicTest.the-variants.{Passes}
-use Rattle·frame_opening.specs.declared.payload.Opening.the-variants.{Opened}
-use Rattle·theorems·proofs.refusals.OpeningRefusals.{request-test, accept-test}
-use Rattle·frame_security.proofs.MicCompared.{test-of-same}
-use Rattle·frame_build.specs.JoinBuilding.{joinAcceptLength}
-use Rattle·frame_build.specs.declared.creator.join.JoinAcceptParts.{JoinAcceptParts}
-use Rattle·frame_build.specs.declared.creator.join.JoinRequestParts.{JoinRequestParts}
-use Rattle·theorems·specs.ReadBack.{RequestReadsBack, builtFields, AcceptReadsBack}
-use Rattle·theorems·proofs.read_back.JoinParts.{RequestBack, AcceptBack}
+use Rattle.base.specs.Bytes.{pick}
+use Rattle.frame.specs.Conditions.{IsJoinAccept}
+use Rattle.frame.specs.JoinFields.{request_fields_of, no_request_of, accept_fields_of, no_accept_of, join_accept_fields_of}
+use Rattle.frame.specs.Layout.{mic_of_of}
+use Rattle.frame.specs.Reading.{read_of}
+use Rattle.frame.specs.ReadingNumbers.{on_request, on_accept}
+use Rattle.frame.specs.Refusals.{refused}
+use Rattle.frame.specs.declared.parser.Reading.TheVariants.{JoinAccept}
+use Rattle.frame.proofs.ReadingLaws.{request_read, accept_read}
+use Rattle.frame_opening.specs.FrameOpening.{Result, result, unopened, join_passes, join_accept_test}
+use Rattle.frame_opening.specs.CheckedOpening.{accept_tested, accept_opened_checked}
+use Rattle.frame_security.specs.JoinAcceptCipher.{accept_decrypted}
+use Rattle.frame_security.specs.Security.{covered, join_mic}
+use Rattle.frame_opening.specs.declared.mic_tests.MicTest.TheVariants.{Passes}
+use Rattle.frame_opening.specs.declared.payload.Opening.TheVariants.{Opened}
+use Rattle.theorems.proofs.refusals.OpeningRefusals.{request_test, accept_test}
+use Rattle.frame_security.proofs.MicCompared.{test_of_same}
+use Rattle.frame_build.specs.JoinBuilding.{join_accept_length}
+use Rattle.frame_build.specs.declared.creator.join.JoinAcceptParts.{JoinAcceptParts}
+use Rattle.frame_build.specs.declared.creator.join.JoinRequestParts.{JoinRequestParts}
+use Rattle.theorems.specs.ReadBack.{RequestReadsBack, built_fields, AcceptReadsBack}
+use Rattle.theorems.proofs.read_back.JoinParts.{RequestBack, AcceptBack}
 
--- of what `join-request-back` gives
-pub request-opens : (key : List ℕ) (j : JoinRequestParts) (f : List ℕ) → RequestBack key j f → RequestReadsBack key j f
-request-opens key j f b =
+-- of what `join_request_back` gives
+pub request_opens : (key : List ℕ) (j : JoinRequestParts) (f : List ℕ) → RequestBack key j f → RequestReadsBack key j f
+request_opens key j f b =
     record {
-      reads = b .reads;
-      passes = request-test key f .passes .back (request-read f (b .reads), b .mic);
-      fields = ap (onRequest (requestFields f) noRequest) (b .reads) ∙ b .fields;
+      reads = b.reads;
+      passes = (request_test key f).passes.back (request_read f b.reads, b.mic);
+      fields = ap (on_request (request_fields_of f) no_request_of) b.reads ∙ b.fields;
     }
 
-module _ (key : List ℕ) (j : JoinAcceptParts) (channels f : List ℕ) (b : AcceptBack key j channels f (acceptDecrypted key f)) where
+module _ (key : List ℕ) (j : JoinAcceptParts) (channels f : List ℕ) (b : AcceptBack key j channels f (accept_decrypted key f)) where
   abbrev g : List ℕ
-  g = acceptDecrypted key f
+  g = accept_decrypted key f
 
   -- the checked opening accepts it, and leaves what decryption makes
-  opened : acceptOpenedChecked key f ≡ result Opened g
-  unfolding acceptOpenedChecked acceptTested joinPasses
+  opened : accept_opened_checked key f ≡ result Opened g
+  unfolding accept_opened_checked accept_tested join_passes
   opened =
-      ap (onAccept (λ n. acceptTested key f) (unopened f)) (b .reads)
+      ap (on_accept (λ n. accept_tested key f) (unopened f)) b.reads
       ∙ ap (λ (t : Bool). pick t (result Opened g) (unopened f (refused 5)))
-      (test-of-same (micOf g) (joinMic key (covered g)) (b .mic))
+      (test_of_same (mic_of_of g) (join_mic key (covered g)) b.mic)
 
-  left : g ≡ acceptOpenedChecked key f .bytes
-  left = sym (ap (λ (r : Result). r .bytes) opened)
+  left : g ≡ (accept_opened_checked key f).bytes
+  left = sym (ap (λ (r : Result). r.bytes) opened)
 
-  clear-fields : joinAcceptFields g ≡ builtFields j channels
-  clear-fields = ap (onAccept (λ n. acceptFields g) noAccept) (b .clear-reads) ∙ b .fields
+  clear_fields : join_accept_fields_of g ≡ built_fields j channels
+  clear_fields = ap (on_accept (λ n. accept_fields_of g) no_accept_of) b.clear_reads ∙ b.fields
 
-  clear-passes : joinAcceptTest key g ≡ Passes
-  clear-passes =
-      let read : IsJoinAccept g (joinAcceptLength j) = accept-read g (b .clear-reads) in
-      accept-test key g .passes .back (subst (λ (n : ℕ). IsJoinAccept g n) (sym (read .long)) read, b .mic)
+  clear_passes : join_accept_test key g ≡ Passes
+  clear_passes =
+      let read : IsJoinAccept g (join_accept_length j) = accept_read g b.clear_reads in
+      (accept_test key g).passes.back (subst (λ (n : ℕ). IsJoinAccept g n) (sym read.long) read, b.mic)
 
-  -- of what `join-accept-back` gives
-  pub accept-opens : AcceptReadsBack key j channels f
-  accept-opens =
+  -- of what `join_accept_back` gives
+  pub accept_opens : AcceptReadsBack key j channels f
+  accept_opens =
       record {
-        reads = b .reads;
-        opens = opened ∙ ap (result Opened) (b .clear);
-        clear-reads = subst (λ (l : List ℕ). readOf l ≡ JoinAccept (joinAcceptLength j)) left (b .clear-reads);
-        passes = subst (λ (l : List ℕ). joinAcceptTest key l ≡ Passes) left clear-passes;
-        fields = subst (λ (l : List ℕ). joinAcceptFields l ≡ builtFields j channels) left clear-fields;
+        reads = b.reads;
+        opens = opened ∙ ap (result Opened) b.clear;
+        clear_reads = subst (λ (l : List ℕ). read_of l ≡ JoinAccept (join_accept_length j)) left b.clear_reads;
+        passes = subst (λ (l : List ℕ). join_accept_test key l ≡ Passes) left clear_passes;
+        fields = subst (λ (l : List ℕ). join_accept_fields_of l ≡ built_fields j channels) left clear_fields;
       }

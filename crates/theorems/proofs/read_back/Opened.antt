@@ -1,168 +1,168 @@
 -- Laws on openings: decrypting a data frame leaves every byte outside the payload, and so the reading, as it was, and done twice
 -- gives the frame back.
 -- Assumes nothing.
-use mathlib.Core.Path.{_≡_, refl, sym, ap, ap₂, _∙_}
+use mathlib.Core.Path.{◌≡◌, refl, sym, ap, ap₂, ◌∙◌}
 use mathlib.Core.Bool.{true, false}
 use mathlib.Core.List.{List}
-use Prim.Native.Nat.{ℕ, _+_, _-_, _*_, _%_, _≤_, _<_, min}
+use Prim.Native.Nat.{ℕ, ◌+◌, ◌-◌, ◌*◌, ◌%◌, ◌≤◌, ◌<◌, min}
 use native.Mathlib.Omega.{arith}
 use lib.ListN.{length, take, drop}
-use lib.Seq.{getD-take, getD-drop}
-use Rattle·base.specs.Bytes.{at, part}
-use Rattle·base.proofs.Cases.{by-bool, by-order}
-use Rattle·base.proofs.Lent.{part-long, put-before, put-after}
-use Rattle·frame.specs.Conditions.{IsData}
-use Rattle·frame.specs.Layout.{fcnt, header, headerEnd, payload, payloadEnd, micOf}
-use Rattle·frame.specs.Refusals.{refused}
-use Rattle·frame.specs.declared.refusals.Refusal.{Refusal}
-use Rattle·frame.specs.ReadingNumbers.{onData}
-use Rattle·frame_opening.specs.FrameOpening.{Result, unopened, decrypted, openedUnder, dataOpened}
-use Rattle·frame.specs.Reading.{readOf}
-use Rattle·frame_security.specs.Security.{crypted, cryptedPart, payloadKey, frameKey, fullCounter}
-use Rattle·frame.specs.declared.keys.MaybeKey.{MaybeKey}
-use Rattle·frame.specs.declared.parser.DataFrame.{DataFrame}
-use Rattle·frame.specs.declared.parser.Reading.{Reading}
-use Rattle·frame.specs.declared.parser.Reading.the-variants.{JoinRequest, JoinAccept, Data, Refused}
-use Rattle·frame.proofs.LayoutLaws.{placed, length-payload, read-same}
-use Rattle·frame_opening.proofs.OpeningLaws.{pick-true, pick-false}
-use Rattle·frame.proofs.ReadingLaws.{data-read}
-use Rattle·frame_security.proofs.SecurityLaws.{crypted-long, cryptedPart-long, cryptedPart-twice}
+use lib.Seq.{get_or-take, get_or-drop}
+use Rattle.base.specs.Bytes.{at, part}
+use Rattle.base.proofs.Cases.{by_bool, by_order}
+use Rattle.base.proofs.Lent.{part_long, put_before, put_after}
+use Rattle.frame.specs.Conditions.{IsData}
+use Rattle.frame.specs.Layout.{fcnt, header, header_end_of, payload, payload_end_of, mic_of_of}
+use Rattle.frame.specs.Refusals.{refused}
+use Rattle.frame.specs.declared.refusals.Refusal.{Refusal}
+use Rattle.frame.specs.ReadingNumbers.{on_data}
+use Rattle.frame_opening.specs.FrameOpening.{Result, unopened, decrypted, opened_under, data_opened}
+use Rattle.frame.specs.Reading.{read_of}
+use Rattle.frame_security.specs.Security.{crypted, crypted_part, payload_key_of, frame_key, full_counter_of}
+use Rattle.frame.specs.declared.keys.MaybeKey.{MaybeKey}
+use Rattle.frame.specs.declared.parser.DataFrame.{DataFrame}
+use Rattle.frame.specs.declared.parser.Reading.{Reading}
+use Rattle.frame.specs.declared.parser.Reading.TheVariants.{JoinRequest, JoinAccept, Data, Refused}
+use Rattle.frame.proofs.LayoutLaws.{placed, length-payload, read_same}
+use Rattle.frame_opening.proofs.OpeningLaws.{pick_true, pick_false}
+use Rattle.frame.proofs.ReadingLaws.{data_read}
+use Rattle.frame_security.proofs.SecurityLaws.{crypted_long, crypted_part_long, crypted_part_twice}
 
 module _ (key f : List ℕ) (counter : ℕ) (h : IsData f) where
-  order : headerEnd f ≤ payloadEnd f
-  order = placed f h .payload
+  order : header_end_of f ≤ payload_end_of f
+  order = (placed f h).payload
 
-  inside : payloadEnd f ≤ length f
+  inside : payload_end_of f ≤ length f
   inside = omega arith
 
   abbrev clear : List ℕ
-  clear = crypted key f (fullCounter counter (fcnt f)) (part (headerEnd f) (payloadEnd f - headerEnd f) f)
+  clear = crypted key f (full_counter_of counter (fcnt f)) (part (header_end_of f) (payload_end_of f - header_end_of f) f)
 
-  clear-fits : length clear ≡ payloadEnd f - headerEnd f
-  clear-fits =
-      crypted-long key f (fullCounter counter (fcnt f)) (part (headerEnd f) (payloadEnd f - headerEnd f) f)
-      ∙ part-long (headerEnd f) (payloadEnd f - headerEnd f) f (omega (arith, order, inside))
+  clear_fits : length clear ≡ payload_end_of f - header_end_of f
+  clear_fits =
+      crypted_long key f (full_counter_of counter (fcnt f)) (part (header_end_of f) (payload_end_of f - header_end_of f) f)
+      ∙ part_long (header_end_of f) (payload_end_of f - header_end_of f) f (omega (arith, order, inside))
 
-  pub decrypted-long : length (decrypted key counter f) ≡ length f
+  pub decrypted_long : length (decrypted key counter f) ≡ length f
   unfolding decrypted
-  decrypted-long = cryptedPart-long key f (fullCounter counter (fcnt f)) (headerEnd f) (payloadEnd f) order inside
+  decrypted_long = crypted_part_long key f (full_counter_of counter (fcnt f)) (header_end_of f) (payload_end_of f) order inside
 
   -- the header is as it was
-  pub decrypted-header : take (headerEnd f) (decrypted key counter f) ≡ header f
-  unfolding decrypted cryptedPart
-  decrypted-header = put-before (headerEnd f) (payloadEnd f) f clear order inside clear-fits (headerEnd f) (omega arith)
+  pub decrypted-header : take (header_end_of f) (decrypted key counter f) ≡ header f
+  unfolding decrypted crypted_part
+  decrypted-header = put_before (header_end_of f) (payload_end_of f) f clear order inside clear_fits (header_end_of f) (omega arith)
 
   -- and so is the MIC
-  pub decrypted-mic : drop (payloadEnd f) (decrypted key counter f) ≡ micOf f
-  unfolding decrypted cryptedPart
-  decrypted-mic = put-after (headerEnd f) (payloadEnd f) f clear order inside clear-fits
+  pub decrypted-mic : drop (payload_end_of f) (decrypted key counter f) ≡ mic_of_of f
+  unfolding decrypted crypted_part
+  decrypted-mic = put_after (header_end_of f) (payload_end_of f) f clear order inside clear_fits
 
-  before-payload : (i : ℕ) → i < headerEnd f → at (decrypted key counter f) i ≡ at f i
-  before-payload i k =
-      sym (getD-take (headerEnd f) (decrypted key counter f) i 0 k)
+  before_payload : (i : ℕ) → i < header_end_of f → at (decrypted key counter f) i ≡ at f i
+  before_payload i k =
+      sym (get_or-take (header_end_of f) (decrypted key counter f) i 0 k)
       ∙ ap (λ (l : List ℕ). at l i) decrypted-header
-      ∙ getD-take (headerEnd f) f i 0 k
+      ∙ get_or-take (header_end_of f) f i 0 k
 
-  after-payload : (i : ℕ) → payloadEnd f ≤ i → at (decrypted key counter f) i ≡ at f i
-  after-payload i k =
-      let e : payloadEnd f + (i - payloadEnd f) ≡ i = omega arith in
+  after_payload : (i : ℕ) → payload_end_of f ≤ i → at (decrypted key counter f) i ≡ at f i
+  after_payload i k =
+      let e : payload_end_of f + (i - payload_end_of f) ≡ i = omega arith in
       ap (at (decrypted key counter f)) (sym e)
-      ∙ sym (getD-drop (payloadEnd f) (decrypted key counter f) (i - payloadEnd f) 0)
-      ∙ ap (λ (l : List ℕ). at l (i - payloadEnd f)) decrypted-mic
-      ∙ getD-drop (payloadEnd f) f (i - payloadEnd f) 0
+      ∙ sym (get_or-drop (payload_end_of f) (decrypted key counter f) (i - payload_end_of f) 0)
+      ∙ ap (λ (l : List ℕ). at l (i - payload_end_of f)) decrypted-mic
+      ∙ get_or-drop (payload_end_of f) f (i - payload_end_of f) 0
       ∙ ap (at f) e
 
   -- every byte outside the payload is as it was
-  pub decrypted-outside : (i : ℕ) → (headerEnd f ≤ i → i < payloadEnd f → ⊥) → at (decrypted key counter f) i ≡ at f i
-  decrypted-outside i out =
-      by-order (headerEnd f) i
-      (λ l. by-order (payloadEnd f) i (after-payload i) (λ g. absurd (out l g)))
-      (before-payload i)
+  pub decrypted_outside : (i : ℕ) → (header_end_of f ≤ i → i < payload_end_of f → ⊥) → at (decrypted key counter f) i ≡ at f i
+  decrypted_outside i out =
+      by_order (header_end_of f) i
+      (λ l. by_order (payload_end_of f) i (after_payload i) (λ g. absurd (out l g)))
+      (before_payload i)
 
   -- so the frame reads as it did
-  pub decrypted-read : readOf (decrypted key counter f) ≡ readOf f
-  decrypted-read =
+  pub decrypted_read : read_of (decrypted key counter f) ≡ read_of f
+  decrypted_read =
       sym
-      (read-same f (decrypted key counter f) (sym decrypted-long)
-      (λ i k. sym (decrypted-outside i (λ a b. omega arith))))
+      (read_same f (decrypted key counter f) (sym decrypted_long)
+      (λ i k. sym (decrypted_outside i (λ a b. omega arith))))
 
   -- decrypting twice gives the frame back
-  pub decrypted-twice : decrypted key counter (decrypted key counter f) ≡ f
+  pub decrypted_twice : decrypted key counter (decrypted key counter f) ≡ f
   unfolding decrypted
-  decrypted-twice =
+  decrypted_twice =
       let g = decrypted key counter f in
       let p = placed f h in
-      let e5 : at g 5 ≡ at f 5 = before-payload 5 (omega arith) in
-      let e6 : at g 6 ≡ at f 6 = before-payload 6 (omega arith) in
-      let e7 : at g 7 ≡ at f 7 = before-payload 7 (omega arith) in
+      let e5 : at g 5 ≡ at f 5 = before_payload 5 (omega arith) in
+      let e6 : at g 6 ≡ at f 6 = before_payload 6 (omega arith) in
+      let e7 : at g 7 ≡ at f 7 = before_payload 7 (omega arith) in
       let count : fcnt g ≡ fcnt f = ap₂ (λ (x y : ℕ). x + y * 256) e6 e7 in
-      let start : headerEnd g ≡ headerEnd f = ap₂ (λ (x n : ℕ). min (7 + x % 16 + 2) (n - 4)) e5 decrypted-long in
-      let end : payloadEnd g ≡ payloadEnd f = ap (λ (n : ℕ). n - 4) decrypted-long in
-      ap (λ (c : ℕ). cryptedPart key g (fullCounter counter c) (headerEnd g) (payloadEnd g)) count
-      ∙ ap₂ (λ (a b : ℕ). cryptedPart key g (fullCounter counter (fcnt f)) a b) start end
-      ∙ cryptedPart-twice key f (fullCounter counter (fcnt f)) (headerEnd f) (payloadEnd f) (omega arith) order inside
+      let start : header_end_of g ≡ header_end_of f = ap₂ (λ (x n : ℕ). min (7 + x % 16 + 2) (n - 4)) e5 decrypted_long in
+      let end : payload_end_of g ≡ payload_end_of f = ap (λ (n : ℕ). n - 4) decrypted_long in
+      ap (λ (c : ℕ). crypted_part key g (full_counter_of counter c) (header_end_of g) (payload_end_of g)) count
+      ∙ ap₂ (λ (a b : ℕ). crypted_part key g (full_counter_of counter (fcnt f)) a b) start end
+      ∙ crypted_part_twice key f (full_counter_of counter (fcnt f)) (header_end_of f) (payload_end_of f) (omega arith) order inside
 
 -- opening twice gives the frame back, whatever the first answer
 module _ (nwk app : MaybeKey) (counter : ℕ) (f : List ℕ) where
-  open-once : List ℕ → Result
-  open-once = dataOpened nwk app counter
+  open_once : List ℕ → Result
+  open_once = data_opened nwk app counter
 
-  refused-twice : (r : Refusal) → open-once f ≡ unopened f r → open-once (open-once f .bytes) .bytes ≡ f
-  refused-twice r e =
-      let same : open-once f .bytes ≡ f = ap (λ (r : Result). r .bytes) e in
-      ap (λ (g : List ℕ). open-once g .bytes) same ∙ same
+  refused_twice : (r : Refusal) → open_once f ≡ unopened f r → (open_once (open_once f).bytes).bytes ≡ f
+  refused_twice r e =
+      let same : (open_once f).bytes ≡ f = ap (λ (r : Result). r.bytes) e in
+      ap (λ (g : List ℕ). (open_once g).bytes) same ∙ same
 
-  opens : (g : List ℕ) (d : DataFrame) → readOf g ≡ Data d → open-once g ≡ openedUnder (frameKey g nwk app) counter g
-  unfolding open-once dataOpened
-  opens g d q = ap (onData (λ b. openedUnder (frameKey g nwk app) counter g) (unopened g)) q
+  opens : (g : List ℕ) (d : DataFrame) → read_of g ≡ Data d → open_once g ≡ opened_under (frame_key g nwk app) counter g
+  unfolding open_once data_opened
+  opens g d q = ap (on_data (λ b. opened_under (frame_key g nwk app) counter g) (unopened g)) q
 
-  opened-bytes : (k : MaybeKey) (g : List ℕ) → k .given ≡ true → openedUnder k counter g .bytes ≡ decrypted (k .key) counter g
-  unfolding openedUnder
-  opened-bytes k g t = ap (λ (r : Result). r .bytes) (pick-true (k .given) _ _ t)
+  opened_bytes : (k : MaybeKey) (g : List ℕ) → k.given ≡ true → (opened_under k counter g).bytes ≡ decrypted k.key counter g
+  unfolding opened_under
+  opened_bytes k g t = ap (λ (r : Result). r.bytes) (pick_true k.given _ _ t)
 
-  not-opened : (k : MaybeKey) (g : List ℕ) → k .given ≡ false → openedUnder k counter g ≡ unopened g (refused 6)
-  unfolding openedUnder
-  not-opened k g t = pick-false (k .given) _ _ t
+  not_opened : (k : MaybeKey) (g : List ℕ) → k.given ≡ false → opened_under k counter g ≡ unopened g (refused 6)
+  unfolding opened_under
+  not_opened k g t = pick_false k.given _ _ t
 
   -- a decrypted frame has the same key
-  same-key : (key : List ℕ) → IsData f → frameKey (decrypted key counter f) nwk app ≡ frameKey f nwk app
-  same-key key h =
+  same_key : (key : List ℕ) → IsData f → frame_key (decrypted key counter f) nwk app ≡ frame_key f nwk app
+  same_key key h =
       let g = decrypted key counter f in
-      let five : at g 5 ≡ at f 5 = decrypted-outside key f counter h 5 (λ a b. omega (arith, placed f h .fopts)) in
-      let start : headerEnd g ≡ headerEnd f =
-      ap₂ (λ (x n : ℕ). min (7 + x % 16 + 2) (n - 4)) five (decrypted-long key f counter h) in
+      let five : at g 5 ≡ at f 5 = decrypted_outside key f counter h 5 (λ a b. omega (arith, (placed f h).fopts)) in
+      let start : header_end_of g ≡ header_end_of f =
+      ap₂ (λ (x n : ℕ). min (7 + x % 16 + 2) (n - 4)) five (decrypted_long key f counter h) in
       let hdr : header g ≡ header f = ap (λ (n : ℕ). take n g) start ∙ decrypted-header key f counter h in
       let long : length (payload g) ≡ length (payload f) =
       length-payload g
-      ∙ ap₂ (λ (n m : ℕ). n - 4 - m) (decrypted-long key f counter h) start
+      ∙ ap₂ (λ (n m : ℕ). n - 4 - m) (decrypted_long key f counter h) start
       ∙ sym (length-payload f) in
-      ap₂ (λ (l : List ℕ) (n : ℕ). payloadKey l n nwk app) hdr long
+      ap₂ (λ (l : List ℕ) (n : ℕ). payload_key_of l n nwk app) hdr long
 
-  data-twice : (d : DataFrame) → readOf f ≡ Data d → open-once (open-once f .bytes) .bytes ≡ f
-  data-twice d q =
-      let k = frameKey f nwk app in
-      by-bool (k .given)
+  data_twice : (d : DataFrame) → read_of f ≡ Data d → (open_once (open_once f).bytes).bytes ≡ f
+  data_twice d q =
+      let k = frame_key f nwk app in
+      by_bool k.given
       (λ t.
-      let h : IsData f = data-read f q in
-      let g = decrypted (k .key) counter f in
-      let once : open-once f .bytes ≡ g = ap (λ (r : Result). r .bytes) (opens f d q) ∙ opened-bytes k f t in
-      ap (λ (l : List ℕ). open-once l .bytes) once
-      ∙ ap (λ (r : Result). r .bytes) (opens g d (decrypted-read (k .key) f counter h ∙ q))
-      ∙ ap (λ (m : MaybeKey). openedUnder m counter g .bytes) (same-key (k .key) h)
-      ∙ opened-bytes k g t
-      ∙ decrypted-twice (k .key) f counter h)
-      (λ t. refused-twice (refused 6) (opens f d q ∙ not-opened k f t))
+      let h : IsData f = data_read f q in
+      let g = decrypted k.key counter f in
+      let once : (open_once f).bytes ≡ g = ap (λ (r : Result). r.bytes) (opens f d q) ∙ opened_bytes k f t in
+      ap (λ (l : List ℕ). (open_once l).bytes) once
+      ∙ ap (λ (r : Result). r.bytes) (opens g d (decrypted_read k.key f counter h ∙ q))
+      ∙ ap (λ (m : MaybeKey). (opened_under m counter g).bytes) (same_key k.key h)
+      ∙ opened_bytes k g t
+      ∙ decrypted_twice k.key f counter h)
+      (λ t. refused_twice (refused 6) (opens f d q ∙ not_opened k f t))
 
-  other-twice : (r : Reading) → readOf f ≡ r → open-once (open-once f .bytes) .bytes ≡ f
-  unfolding open-once dataOpened
-  other-twice JoinRequest q =
-      refused-twice (refused 4) (ap (onData (λ b. openedUnder (frameKey f nwk app) counter f) (unopened f)) q)
-  other-twice (JoinAccept n) q =
-      refused-twice (refused 4) (ap (onData (λ b. openedUnder (frameKey f nwk app) counter f) (unopened f)) q)
-  other-twice (Data d) q = data-twice d q
-  other-twice (Refused r) q =
-      refused-twice r (ap (onData (λ b. openedUnder (frameKey f nwk app) counter f) (unopened f)) q)
+  other_twice : (r : Reading) → read_of f ≡ r → (open_once (open_once f).bytes).bytes ≡ f
+  unfolding open_once data_opened
+  other_twice JoinRequest q =
+      refused_twice (refused 4) (ap (on_data (λ b. opened_under (frame_key f nwk app) counter f) (unopened f)) q)
+  other_twice (JoinAccept n) q =
+      refused_twice (refused 4) (ap (on_data (λ b. opened_under (frame_key f nwk app) counter f) (unopened f)) q)
+  other_twice (Data d) q = data_twice d q
+  other_twice (Refused r) q =
+      refused_twice r (ap (on_data (λ b. opened_under (frame_key f nwk app) counter f) (unopened f)) q)
 
-  pub opened-twice : dataOpened nwk app counter (dataOpened nwk app counter f .bytes) .bytes ≡ f
-  unfolding open-once
-  opened-twice = other-twice (readOf f) refl
+  pub opened_twice : (data_opened nwk app counter (data_opened nwk app counter f).bytes).bytes ≡ f
+  unfolding open_once
+  opened_twice = other_twice (read_of f) refl

@@ -1,239 +1,239 @@
 -- Building gives each number exactly where it is due by the order of its conditions (docs/RULES.md, Refusals), 0 where none
 -- holds, and no other number: said of the definitions of the refusals, and of what each call answers, a refusal or a length.
 -- Assumes nothing.
-use mathlib.Core.Path.{_≡_, refl, sym, ap}
+use mathlib.Core.Path.{◌≡◌, refl, sym, ap}
 use mathlib.Core.Bool.{Bool, true, false, not}
 use mathlib.Core.List.{List}
-use Prim.Native.Nat.{ℕ, _%_, _<_}
+use Prim.Native.Nat.{ℕ, ◌%◌, ◌<◌}
 use native.Mathlib.Omega.{arith}
 use lib.Dec.{eqb, ltb}
 use lib.ListN.{length}
-use borrow.Author.Tests.{eqb-true, eqb-false, eq-eqb, ne-eqb, ltb-true, lt-ltb}
-use Rattle·base.specs.Bytes.{pick, at}
-use Rattle·frame.specs.Refusals.{refused, notRefused}
-use Rattle·frame.specs.declared.refusals.Refusal.{Refusal}
-use Rattle·frame.specs.declared.parser.FPort.{FPort}
-use Rattle·frame.specs.declared.parser.FPort.the-variants.{Absent, Port}
-use Rattle·frame_build.specs.DataBuilding.{both, either, isZero, isAbsent, dataLength, dataRefusal}
-use Rattle·frame_build.specs.DataFrames.{dataFrame}
-use Rattle·frame_security.specs.Built.{builtOf, builtRefusal}
-use Rattle·frame_build.specs.JoinBuilding.{tooHigh, joinAcceptRefusal, joinRequestRefusal}
-use Rattle·frame_build.specs.JoinFrames.{joinRequest, joinAccept}
-use Rattle·frame_security.specs.declared.sealing.Built.{Built}
-use Rattle·frame_security.specs.declared.sealing.Built.the-variants.{Frame, Refused}
-use Rattle·frame_build.specs.declared.creator.data_frame.DataParts.{DataParts}
-use Rattle·frame_build.specs.declared.creator.join.JoinRequestParts.{JoinRequestParts}
-use Rattle·frame_build.specs.declared.creator.join.JoinAcceptParts.{JoinAcceptParts}
-use Rattle·theorems·specs.Exactly.{Exactly, Condition, Due}
-use Rattle·theorems·specs.BuildingConditions.{NotPort0, absent, other, TooManyCommands, PayloadOnPort0, PayloadWithoutPort, dataConditions, requestConditions, WrongChannels, many, high, WrongList, NoRoom, bare, with-list, acceptConditions, Answers}
-use Rattle·theorems·proofs.refusals.SomeIndex.{SomeAt, if-some}
-use Rattle·theorems·proofs.refusals.FirstDue.{apart, if-when, if-unless, if-not, if-below, if-equal, by-none, Gives, plain, none-left, or-else, says-told, no-other, in-answer}
+use borrow.Author.Tests.{eqb-true, eqb-false, eq-eqb, ne_eqb, ltb-true, lt-ltb}
+use Rattle.base.specs.Bytes.{pick, at}
+use Rattle.frame.specs.Refusals.{refused, not_refused}
+use Rattle.frame.specs.declared.refusals.Refusal.{Refusal}
+use Rattle.frame.specs.declared.parser.FPort.{FPort}
+use Rattle.frame.specs.declared.parser.FPort.TheVariants.{Absent, Port}
+use Rattle.frame_build.specs.DataBuilding.{both, either, is_zero, is_absent, data_length, data_refusal_of}
+use Rattle.frame_build.specs.DataFrames.{data_frame_of}
+use Rattle.frame_security.specs.Built.{built_of, built_refusal}
+use Rattle.frame_build.specs.JoinBuilding.{too_high_of, join_accept_refusal_of, join_request_refusal}
+use Rattle.frame_build.specs.JoinFrames.{join_request_of, join_accept_of}
+use Rattle.frame_security.specs.declared.sealing.Built.{Built}
+use Rattle.frame_security.specs.declared.sealing.Built.TheVariants.{Frame, Refused}
+use Rattle.frame_build.specs.declared.creator.data_frame.DataParts.{DataParts}
+use Rattle.frame_build.specs.declared.creator.join.JoinRequestParts.{JoinRequestParts}
+use Rattle.frame_build.specs.declared.creator.join.JoinAcceptParts.{JoinAcceptParts}
+use Rattle.theorems.specs.Exactly.{Exactly, Condition, Due}
+use Rattle.theorems.specs.BuildingConditions.{NotPort0, absent, other, TooManyCommands, PayloadOnPort0, PayloadWithoutPort, data_conditions, request_conditions, WrongChannels, many, high, WrongList, NoRoom, bare, with_list_lem, accept_conditions, Answers}
+use Rattle.theorems.proofs.refusals.SomeIndex.{SomeAt, if_some}
+use Rattle.theorems.proofs.refusals.FirstDue.{apart, if_when, if_unless, if_not, if_below, if_equal, by_none, Gives, plain, none_left, or_else, says_told, no_other, in_answer}
 
 -- ---- what the tests tell
 
 -- of the port
-if-zero : (port : FPort) → Exactly (isZero port ≡ true) (port ≡ Port 0)
-if-zero Absent = record { there = λ e. apart (sym e); back = λ e. cc }
-if-zero (Port p) = record { there = λ e. ap Port (eqb-true p 0 e); back = λ e. eq-eqb p 0 (cc) }
+if_zero : (port : FPort) → Exactly (is_zero port ≡ true) (port ≡ Port 0)
+if_zero Absent = record { there = λ e. apart (sym e); back = λ e. cc }
+if_zero (Port p) = record { there = λ e. ap Port (eqb-true p 0 e); back = λ e. eq-eqb p 0 (cc) }
 
-if-absent : (port : FPort) → Exactly (isAbsent port ≡ true) (port ≡ Absent)
-if-absent Absent = record { there = λ e. refl; back = λ e. refl }
-if-absent (Port p) = record { there = λ e. apart (sym e); back = λ e. cc }
+if_absent : (port : FPort) → Exactly (is_absent port ≡ true) (port ≡ Absent)
+if_absent Absent = record { there = λ e. refl; back = λ e. refl }
+if_absent (Port p) = record { there = λ e. apart (sym e); back = λ e. cc }
 
-port-other : (p : ℕ) → NotPort0 (Port p) → p ≡ 0 → ⊥
-port-other p (absent e) z = apart (cc)
-port-other p (other q e n) z = n (cc)
+port_other : (p : ℕ) → NotPort0 (Port p) → p ≡ 0 → ⊥
+port_other p (absent e) z = apart (cc)
+port_other p (other q e n) z = n (cc)
 
-if-not-zero : (port : FPort) → Exactly (isZero port ≡ false) (NotPort0 port)
-if-not-zero Absent = record { there = λ e. absent refl; back = λ n. refl }
-if-not-zero (Port p) = record { there = λ e. other p refl (eqb-false p 0 e); back = λ n. ne-eqb p 0 (port-other p n) }
+if_not_zero : (port : FPort) → Exactly (is_zero port ≡ false) (NotPort0 port)
+if_not_zero Absent = record { there = λ e. absent refl; back = λ n. refl }
+if_not_zero (Port p) = record { there = λ e. other p refl (eqb-false p 0 e); back = λ n. ne_eqb p 0 (port_other p n) }
 
 -- two tests, both of which are to hold
-if-both : (a b : Bool) {P Q : Type 0} → Exactly (a ≡ true) P → Exactly (b ≡ true) Q → Exactly (both a b ≡ true) (P × Q)
-if-both true b x y = record { there = λ e. (x .there refl, y .there e); back = λ h. y .back (h .1) }
-if-both false b x y = record { there = λ e. apart (sym e); back = λ h. x .back (h .0) }
+if_both : (a b : Bool) {P Q : Type 0} → Exactly (a ≡ true) P → Exactly (b ≡ true) Q → Exactly (both a b ≡ true) (P × Q)
+if_both true b x y = record { there = λ e. (x.there refl, y.there e); back = λ h. y.back h.1 }
+if_both false b x y = record { there = λ e. apart (sym e); back = λ h. x.back h.0 }
 
 -- a channel that is too high stands at some index
-if-high : (cs : List ℕ) → Exactly (tooHigh cs ≡ true) (SomeAt (λ c. 16777215 < c) cs)
-if-high = if-some (λ c. 16777215 < c) (ltb 16777215) (if-below 16777215) tooHigh refl (λ c cs. refl)
+if_high : (cs : List ℕ) → Exactly (too_high_of cs ≡ true) (SomeAt (λ c. 16777215 < c) cs)
+if_high = if_some (λ c. 16777215 < c) (ltb 16777215) (if_below 16777215) too_high_of refl (λ c cs. refl)
 
 -- so the two tests of the list tell that its channels are wrong
-wrong-channels : (b : Bool) (cs : List ℕ) → Exactly (b ≡ true) (5 < length cs) → either b (tooHigh cs) ≡ true → WrongChannels cs
-wrong-channels true cs x e = many (x .there refl)
-wrong-channels false cs x e = let h = if-high cs .there e in high (h .0) (h .1) (h .2)
+wrong_channels : (b : Bool) (cs : List ℕ) → Exactly (b ≡ true) (5 < length cs) → either b (too_high_of cs) ≡ true → WrongChannels cs
+wrong_channels true cs x e = many (x.there refl)
+wrong_channels false cs x e = let h = (if_high cs).there e in high h.0 h.1 h.2
 
-channels-wrong : (b : Bool) (cs : List ℕ) → Exactly (b ≡ true) (5 < length cs) → WrongChannels cs → either b (tooHigh cs) ≡ true
-channels-wrong true cs x w = refl
-channels-wrong false cs x (many h) = apart (sym (x .back h))
-channels-wrong false cs x (high i l h) = if-high cs .back (i, l, h)
+channels_wrong : (b : Bool) (cs : List ℕ) → Exactly (b ≡ true) (5 < length cs) → WrongChannels cs → either b (too_high_of cs) ≡ true
+channels_wrong true cs x w = refl
+channels_wrong false cs x (many h) = apart (sym (x.back h))
+channels_wrong false cs x (high i l h) = (if_high cs).back (i, l, h)
 
-if-channels : (cs : List ℕ) → Exactly (either (ltb 5 (length cs)) (tooHigh cs) ≡ true) (WrongChannels cs)
-if-channels cs =
-    let many-told = if-below 5 (length cs) in
+if_channels : (cs : List ℕ) → Exactly (either (ltb 5 (length cs)) (too_high_of cs) ≡ true) (WrongChannels cs)
+if_channels cs =
+    let many-told = if_below 5 (length cs) in
     record {
-      there = wrong-channels (ltb 5 (length cs)) cs many-told;
-      back = channels-wrong (ltb 5 (length cs)) cs many-told;
+      there = wrong_channels (ltb 5 (length cs)) cs many-told;
+      back = channels_wrong (ltb 5 (length cs)) cs many-told;
     }
 
 -- the room that is needed goes by the list
-room-there : (listed : Bool) (room : ℕ) → room < pick listed 33 17 → NoRoom listed room
-room-there true room h = with-list refl h
-room-there false room h = bare refl h
+room_there : (listed : Bool) (room : ℕ) → room < pick listed 33 17 → NoRoom listed room
+room_there true room h = with_list_lem refl h
+room_there false room h = bare refl h
 
-room-back : (listed : Bool) (room : ℕ) → NoRoom listed room → room < pick listed 33 17
-room-back true room (bare e h) = apart e
-room-back true room (with-list e h) = h
-room-back false room (bare e h) = h
-room-back false room (with-list e h) = apart (sym e)
+room_back : (listed : Bool) (room : ℕ) → NoRoom listed room → room < pick listed 33 17
+room_back true room (bare e h) = apart e
+room_back true room (with_list_lem e h) = h
+room_back false room (bare e h) = h
+room_back false room (with_list_lem e h) = apart (sym e)
 
-if-no-room : (listed : Bool) (room : ℕ) → Exactly (ltb room (pick listed 33 17) ≡ true) (NoRoom listed room)
-if-no-room listed room =
+if_no_room : (listed : Bool) (room : ℕ) → Exactly (ltb room (pick listed 33 17) ≡ true) (NoRoom listed room)
+if_no_room listed room =
     record {
-      there = λ e. room-there listed room (ltb-true room (pick listed 33 17) e);
-      back = λ h. lt-ltb room (pick listed 33 17) (room-back listed room h);
+      there = λ e. room_there listed room (ltb-true room (pick listed 33 17) e);
+      back = λ h. lt-ltb room (pick listed 33 17) (room_back listed room h);
     }
 
 -- ---- each number exactly where it is due
 
-pub data-gives : (d : DataParts) (commands body : List ℕ) (room : ℕ)
-    → Gives plain (dataConditions d commands body room) (dataRefusal d commands body room)
-unfolding dataRefusal
-data-gives d commands body room =
-    let zero-port = isZero (d .port) in
-    let absent-port = isAbsent (d .port) in
+pub data_gives : (d : DataParts) (commands body : List ℕ) (room : ℕ)
+    → Gives plain (data_conditions d commands body room) (data_refusal_of d commands body room)
+unfolding data_refusal_of
+data_gives d commands body room =
+    let zero-port = is_zero d.port in
+    let absent-port = is_absent d.port in
     let over = ltb 15 (length commands) in
     let some = ltb 0 (length body) in
-    let if-some = if-below 0 (length body) in
-    or-else tt (if-when (ltb room 255) (if-below room 255))
-    (or-else tt (if-unless (eqb (d .fctrl % 16) 0) (if-equal (d .fctrl % 16) 0))
-    (or-else tt
-    (if-when (both (not zero-port) over)
-    (if-both (not zero-port) over (if-not zero-port (if-not-zero (d .port))) (if-below 15 (length commands))))
-    (or-else tt (if-when (both zero-port some) (if-both zero-port some (if-zero (d .port)) if-some))
-    (or-else tt (if-when (both absent-port some) (if-both absent-port some (if-absent (d .port)) if-some))
-    (or-else tt (if-when (ltb 255 (dataLength d commands body)) (if-below 255 (dataLength d commands body))) none-left)))))
+    let if_some = if_below 0 (length body) in
+    or_else tt (if_when (ltb room 255) (if_below room 255))
+    (or_else tt (if_unless (eqb (d.fctrl % 16) 0) (if_equal (d.fctrl % 16) 0))
+    (or_else tt
+    (if_when (both (not zero-port) over)
+    (if_both (not zero-port) over (if_not zero-port (if_not_zero d.port)) (if_below 15 (length commands))))
+    (or_else tt (if_when (both zero-port some) (if_both zero-port some (if_zero d.port) if_some))
+    (or_else tt (if_when (both absent-port some) (if_both absent-port some (if_absent d.port) if_some))
+    (or_else tt (if_when (ltb 255 (data_length d commands body)) (if_below 255 (data_length d commands body))) none_left)))))
 
-request-gives : (room : ℕ) → Gives plain (requestConditions room) (joinRequestRefusal room)
-request-gives room = or-else tt (if-when (ltb room 23) (if-below room 23)) none-left
+request_gives : (room : ℕ) → Gives plain (request_conditions room) (join_request_refusal room)
+request_gives room = or_else tt (if_when (ltb room 23) (if_below room 23)) none_left
 
-accept-gives : (j : JoinAcceptParts) (channels : List ℕ) (room : ℕ)
-    → Gives plain (acceptConditions j channels room) (joinAcceptRefusal j channels room)
-unfolding joinAcceptRefusal
-accept-gives j channels room =
-    let listed = j .«with_c_f_list» in
-    let wrong = either (ltb 5 (length channels)) (tooHigh channels) in
-    or-else tt
-    (if-when (both listed wrong) (if-both listed wrong (record { there = λ e. e; back = λ e. e }) (if-channels channels)))
-    (or-else tt (if-when (ltb room (pick listed 33 17)) (if-no-room listed room)) none-left)
+accept_gives : (j : JoinAcceptParts) (channels : List ℕ) (room : ℕ)
+    → Gives plain (accept_conditions j channels room) (join_accept_refusal_of j channels room)
+unfolding join_accept_refusal_of
+accept_gives j channels room =
+    let listed = j.with_c_f_list in
+    let wrong = either (ltb 5 (length channels)) (too_high_of channels) in
+    or_else tt
+    (if_when (both listed wrong) (if_both listed wrong (record { there = λ e. e; back = λ e. e }) (if_channels channels)))
+    (or_else tt (if_when (ltb room (pick listed 33 17)) (if_no_room listed room)) none_left)
 
 -- ---- and what a building answers by it
 
 -- what is due by the number is what is due by the answer
-pub answers : {cs : List Condition} {m : ℕ} (long : ℕ) → Gives plain cs m → Answers cs long (builtOf (refused m) long)
+pub answers : {cs : List Condition} {m : ℕ} (long : ℕ) → Gives plain cs m → Answers cs long (built_of (refused m) long)
 answers long g =
-    let says : ℕ → Built = λ (n : ℕ). builtOf (refused n) long in
-    let back = says-told Refused (Frame long) builtRefusal (λ r. refl) refl in
-    let given = in-answer says builtRefusal back g in
+    let says : ℕ → Built = λ (n : ℕ). built_of (refused n) long in
+    let back = says_told Refused (Frame long) built_refusal (λ r. refl) refl in
+    let given = in_answer says built_refusal back g in
     record {
       refuses =
-          λ n h. rw (ne-eqb n 0 (λ e. omega arith)) at (given .exactly n);
-      builds = given .exactly 0;
-      no-other = λ q o e. no-other says builtRefusal back given q o (ap builtRefusal e);
+          λ n h. rw (ne_eqb n 0 (λ e. omega arith)) at (given.exactly n);
+      builds = given.exactly 0;
+      no_other = λ q o e. no_other says built_refusal back given q o (ap built_refusal e);
     }
 
 module _ (d : DataParts) (commands body : List ℕ) (room : ℕ) where
-  pub data-refusals : (n : ℕ) → Exactly (dataRefusal d commands body room ≡ n) (Due (dataConditions d commands body room) n)
-  data-refusals = data-gives d commands body room .exactly
+  pub data_refusals : (n : ℕ) → Exactly (data_refusal_of d commands body room ≡ n) (Due (data_conditions d commands body room) n)
+  data_refusals = (data_gives d commands body room).exactly
 
-  pub data-answers : (nwk app : List ℕ)
-      → Answers (dataConditions d commands body room) (length (dataFrame nwk app d commands body))
-      (builtOf (refused (dataRefusal d commands body room)) (length (dataFrame nwk app d commands body)))
-  data-answers nwk app = answers (length (dataFrame nwk app d commands body)) (data-gives d commands body room)
+  pub data_answers : (nwk app : List ℕ)
+      → Answers (data_conditions d commands body room) (length (data_frame_of nwk app d commands body))
+      (built_of (refused (data_refusal_of d commands body room)) (length (data_frame_of nwk app d commands body)))
+  data_answers nwk app = answers (length (data_frame_of nwk app d commands body)) (data_gives d commands body room)
 
-pub request-refusals : (room n : ℕ) → Exactly (joinRequestRefusal room ≡ n) (Due (requestConditions room) n)
-request-refusals room = request-gives room .exactly
+pub request_refusals : (room n : ℕ) → Exactly (join_request_refusal room ≡ n) (Due (request_conditions room) n)
+request_refusals room = (request_gives room).exactly
 
-pub request-answers : (key : List ℕ) (j : JoinRequestParts) (room : ℕ)
-    → Answers (requestConditions room) (length (joinRequest key j)) (builtOf (refused (joinRequestRefusal room)) (length (joinRequest key j)))
-request-answers key j room = answers (length (joinRequest key j)) (request-gives room)
+pub request_answers : (key : List ℕ) (j : JoinRequestParts) (room : ℕ)
+    → Answers (request_conditions room) (length (join_request_of key j)) (built_of (refused (join_request_refusal room)) (length (join_request_of key j)))
+request_answers key j room = answers (length (join_request_of key j)) (request_gives room)
 
 module _ (j : JoinAcceptParts) (channels : List ℕ) (room : ℕ) where
-  pub accept-refusals : (n : ℕ) → Exactly (joinAcceptRefusal j channels room ≡ n) (Due (acceptConditions j channels room) n)
-  accept-refusals = accept-gives j channels room .exactly
+  pub accept_refusals : (n : ℕ) → Exactly (join_accept_refusal_of j channels room ≡ n) (Due (accept_conditions j channels room) n)
+  accept_refusals = (accept_gives j channels room).exactly
 
-  pub accept-answers : (key : List ℕ)
-      → Answers (acceptConditions j channels room) (length (joinAccept key j channels))
-      (builtOf (refused (joinAcceptRefusal j channels room)) (length (joinAccept key j channels)))
-  accept-answers key = answers (length (joinAccept key j channels)) (accept-gives j channels room)
+  pub accept_answers : (key : List ℕ)
+      → Answers (accept_conditions j channels room) (length (join_accept_of key j channels))
+      (built_of (refused (join_accept_refusal_of j channels room)) (length (join_accept_of key j channels)))
+  accept_answers key = answers (length (join_accept_of key j channels)) (accept_gives j channels room)
 
 -- ---- the numbers of them and what is built, written out
 
 module _ (nwk app : List ℕ) (d : DataParts) (commands body : List ℕ) (room : ℕ) where
-  abbrev data-answer : Built
-  data-answer = builtOf (refused (dataRefusal d commands body room)) (length (dataFrame nwk app d commands body))
+  abbrev data_answer : Built
+  data_answer = built_of (refused (data_refusal_of d commands body room)) (length (data_frame_of nwk app d commands body))
 
-  due-at : (n : ℕ) → 0 < n → Exactly (data-answer ≡ Refused (refused n)) (Due (dataConditions d commands body room) n)
-  due-at = data-answers d commands body room nwk app .refuses
+  due_at : (n : ℕ) → 0 < n → Exactly (data_answer ≡ Refused (refused n)) (Due (data_conditions d commands body room) n)
+  due_at = (data_answers d commands body room nwk app).refuses
 
-  pub data-7 : Exactly (data-answer ≡ Refused (refused 7)) (room < 255)
-  data-7 = due-at 7 (omega arith)
+  pub data_7 : Exactly (data_answer ≡ Refused (refused 7)) (room < 255)
+  data_7 = due_at 7 (omega arith)
 
-  pub data-13 : Exactly (data-answer ≡ Refused (refused 13)) ((room < 255 → ⊥) × (d .fctrl % 16 ≡ 0 → ⊥))
-  data-13 = due-at 13 (omega arith)
+  pub data_13 : Exactly (data_answer ≡ Refused (refused 13)) ((room < 255 → ⊥) × (d.fctrl % 16 ≡ 0 → ⊥))
+  data_13 = due_at 13 (omega arith)
 
-  pub data-9 : Exactly (data-answer ≡ Refused (refused 9))
-      ((room < 255 → ⊥) × ((d .fctrl % 16 ≡ 0) × TooManyCommands (d .port) commands))
-  data-9 = due-at 9 (omega arith)
+  pub data_9 : Exactly (data_answer ≡ Refused (refused 9))
+      ((room < 255 → ⊥) × ((d.fctrl % 16 ≡ 0) × TooManyCommands d.port commands))
+  data_9 = due_at 9 (omega arith)
 
-  pub data-10 : Exactly (data-answer ≡ Refused (refused 10))
+  pub data_10 : Exactly (data_answer ≡ Refused (refused 10))
       ((room < 255 → ⊥)
-      × ((d .fctrl % 16 ≡ 0) × ((TooManyCommands (d .port) commands → ⊥) × PayloadOnPort0 (d .port) body)))
-  data-10 = due-at 10 (omega arith)
+      × ((d.fctrl % 16 ≡ 0) × ((TooManyCommands d.port commands → ⊥) × PayloadOnPort0 d.port body)))
+  data_10 = due_at 10 (omega arith)
 
-  pub data-11 : Exactly (data-answer ≡ Refused (refused 11))
+  pub data_11 : Exactly (data_answer ≡ Refused (refused 11))
       ((room < 255 → ⊥)
-      × ((d .fctrl % 16 ≡ 0)
-      × ((TooManyCommands (d .port) commands → ⊥)
-      × ((PayloadOnPort0 (d .port) body → ⊥) × PayloadWithoutPort (d .port) body))))
-  data-11 = due-at 11 (omega arith)
+      × ((d.fctrl % 16 ≡ 0)
+      × ((TooManyCommands d.port commands → ⊥)
+      × ((PayloadOnPort0 d.port body → ⊥) × PayloadWithoutPort d.port body))))
+  data_11 = due_at 11 (omega arith)
 
-  pub data-12 : Exactly (data-answer ≡ Refused (refused 12))
+  pub data_12 : Exactly (data_answer ≡ Refused (refused 12))
       ((room < 255 → ⊥)
-      × ((d .fctrl % 16 ≡ 0)
-      × ((TooManyCommands (d .port) commands → ⊥)
-      × ((PayloadOnPort0 (d .port) body → ⊥)
-      × ((PayloadWithoutPort (d .port) body → ⊥) × (255 < dataLength d commands body))))))
-  data-12 = due-at 12 (omega arith)
+      × ((d.fctrl % 16 ≡ 0)
+      × ((TooManyCommands d.port commands → ⊥)
+      × ((PayloadOnPort0 d.port body → ⊥)
+      × ((PayloadWithoutPort d.port body → ⊥) × (255 < data_length d commands body))))))
+  data_12 = due_at 12 (omega arith)
 
-  pub data-built : Exactly (data-answer ≡ Frame (length (dataFrame nwk app d commands body)))
+  pub data_built : Exactly (data_answer ≡ Frame (length (data_frame_of nwk app d commands body)))
       ((room < 255 → ⊥)
-      × ((d .fctrl % 16 ≡ 0)
-      × ((TooManyCommands (d .port) commands → ⊥)
-      × ((PayloadOnPort0 (d .port) body → ⊥)
-      × ((PayloadWithoutPort (d .port) body → ⊥) × (255 < dataLength d commands body → ⊥))))))
-  data-built = by-none (dataConditions d commands body room) tt (data-answers d commands body room nwk app .builds)
+      × ((d.fctrl % 16 ≡ 0)
+      × ((TooManyCommands d.port commands → ⊥)
+      × ((PayloadOnPort0 d.port body → ⊥)
+      × ((PayloadWithoutPort d.port body → ⊥) × (255 < data_length d commands body → ⊥))))))
+  data_built = by_none (data_conditions d commands body room) tt (data_answers d commands body room nwk app).builds
 
 module _ (key : List ℕ) (j : JoinRequestParts) (room : ℕ) where
-  abbrev request-answer : Built
-  request-answer = builtOf (refused (joinRequestRefusal room)) (length (joinRequest key j))
+  abbrev request_answer : Built
+  request_answer = built_of (refused (join_request_refusal room)) (length (join_request_of key j))
 
-  pub request-7 : Exactly (request-answer ≡ Refused (refused 7)) (room < 23)
-  request-7 = request-answers key j room .refuses 7 (omega arith)
+  pub request_7 : Exactly (request_answer ≡ Refused (refused 7)) (room < 23)
+  request_7 = (request_answers key j room).refuses 7 (omega arith)
 
-  pub request-built : Exactly (request-answer ≡ Frame (length (joinRequest key j))) (room < 23 → ⊥)
-  request-built = by-none (requestConditions room) tt (request-answers key j room .builds)
+  pub request_built : Exactly (request_answer ≡ Frame (length (join_request_of key j))) (room < 23 → ⊥)
+  request_built = by_none (request_conditions room) tt (request_answers key j room).builds
 
 module _ (key : List ℕ) (j : JoinAcceptParts) (channels : List ℕ) (room : ℕ) where
-  abbrev accept-answer : Built
-  accept-answer = builtOf (refused (joinAcceptRefusal j channels room)) (length (joinAccept key j channels))
+  abbrev accept_answer : Built
+  accept_answer = built_of (refused (join_accept_refusal_of j channels room)) (length (join_accept_of key j channels))
 
-  pub accept-8 : Exactly (accept-answer ≡ Refused (refused 8)) (WrongList (j .«with_c_f_list») channels)
-  accept-8 = accept-answers j channels room key .refuses 8 (omega arith)
+  pub accept_8 : Exactly (accept_answer ≡ Refused (refused 8)) (WrongList j.with_c_f_list channels)
+  accept_8 = (accept_answers j channels room key).refuses 8 (omega arith)
 
-  pub accept-7 : Exactly (accept-answer ≡ Refused (refused 7))
-      ((WrongList (j .«with_c_f_list») channels → ⊥) × NoRoom (j .«with_c_f_list») room)
-  accept-7 = accept-answers j channels room key .refuses 7 (omega arith)
+  pub accept_7 : Exactly (accept_answer ≡ Refused (refused 7))
+      ((WrongList j.with_c_f_list channels → ⊥) × NoRoom j.with_c_f_list room)
+  accept_7 = (accept_answers j channels room key).refuses 7 (omega arith)
 
-  pub accept-built : Exactly (accept-answer ≡ Frame (length (joinAccept key j channels)))
-      ((WrongList (j .«with_c_f_list») channels → ⊥) × (NoRoom (j .«with_c_f_list») room → ⊥))
-  accept-built = by-none (acceptConditions j channels room) tt (accept-answers j channels room key .builds)
+  pub accept_built : Exactly (accept_answer ≡ Frame (length (join_accept_of key j channels)))
+      ((WrongList j.with_c_f_list channels → ⊥) × (NoRoom j.with_c_f_list room → ⊥))
+  accept_built = by_none (accept_conditions j channels room) tt (accept_answers j channels room key).builds

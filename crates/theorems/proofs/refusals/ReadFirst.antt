@@ -1,173 +1,173 @@
 -- A call that reads a frame first hands on what reading gives, and goes by its own conditions exactly where the frame is what it
 -- needs. By cases on what the reader answers, once for all calls.
 -- Assumes nothing.
-use mathlib.Core.Path.{_≡_, refl, sym, ap, _∙_, subst}
+use mathlib.Core.Path.{◌≡◌, refl, sym, ap, ◌∙◌, subst}
 use mathlib.Core.List.{List}
-use mathlib.Core.Logic.{_⊎_, inl, inr, ⊎-elim}
+use mathlib.Core.Logic.{◌⊎◌, inl, inr, ⊎_elim}
 use Prim.Native.Nat.{ℕ}
 use native.Mathlib.Omega.{arith}
 use lib.Dec.{T}
 use lib.ListN.{length}
-use Rattle·frame.specs.Conditions.{IsJoinAccept, Passes}
-use Rattle·frame.specs.Faults.{Fault, too-long, too-short, version, type, join-length, header, numberOfFault}
-use Rattle·frame.specs.Reading.{readOf, dataOf}
-use Rattle·frame.specs.ReadingNumbers.{numberOf, onRequest, onAccept, onData}
-use Rattle·frame.specs.Refusals.{refused}
-use Rattle·frame.specs.declared.refusals.Refusal.{Refusal}
-use Rattle·frame.specs.declared.parser.Reading.{Reading}
-use Rattle·frame.specs.declared.parser.Reading.the-variants.{JoinRequest, JoinAccept, Data, Refused}
-use Rattle·frame.proofs.ReadingLaws.{Says, answers, refusal-read, reads-request, reads-accept, reads-data}
-use Rattle·theorems·specs.Exactly.{Condition}
-use Rattle·theorems·specs.ByReading.{Needs, join-request, join-accept, data-frame, Is, ByReading, keeps, other, ofReading, AfterReading}
-use Rattle·theorems·proofs.refusals.FirstDue as due
-use Rattle·theorems·proofs.refusals.ReadingRefusals.{passes, not-both}
+use Rattle.frame.specs.Conditions.{IsJoinAccept, Passes}
+use Rattle.frame.specs.Faults.{Fault, too_long, too_short, version, type, join_length, header, number_of_fault}
+use Rattle.frame.specs.Reading.{read_of, data_of}
+use Rattle.frame.specs.ReadingNumbers.{number_of, on_request, on_accept, on_data}
+use Rattle.frame.specs.Refusals.{refused}
+use Rattle.frame.specs.declared.refusals.Refusal.{Refusal}
+use Rattle.frame.specs.declared.parser.Reading.{Reading}
+use Rattle.frame.specs.declared.parser.Reading.TheVariants.{JoinRequest, JoinAccept, Data, Refused}
+use Rattle.frame.proofs.ReadingLaws.{Says, answers, refusal_read, reads_request, reads_accept, reads_data}
+use Rattle.theorems.specs.Exactly.{Condition}
+use Rattle.theorems.specs.ByReading.{Needs, join_request_lem, join_accept_lem, data_frame_lem, Is, ByReading, keeps, other, of_reading, AfterReading}
+use Rattle.theorems.proofs.refusals.FirstDue as due
+use Rattle.theorems.proofs.refusals.ReadingRefusals.{passes, not_both}
 
 -- what a call gives that needs a frame of one type: x there, e at the refusal of any other
 abbrev pub on : {A : Type 0} → Needs → A → (Refusal → A) → Reading → A
-on join-request x e r = onRequest x e r
-on join-accept x e r = onAccept (λ n. x) e r
-on data-frame x e r = onData (λ d. x) e r
+on join_request_lem x e r = on_request x e r
+on join_accept_lem x e r = on_accept (λ n. x) e r
+on data_frame_lem x e r = on_data (λ d. x) e r
 
 -- ---- which frames are needed, and what reading gives of the others
 
 module _ (f : List ℕ) where
   -- the reading of a frame that is needed
-  readAs : Needs → Reading
-  readAs join-request = JoinRequest
-  readAs join-accept = JoinAccept (length f)
-  readAs data-frame = Data (dataOf f)
+  read_as : Needs → Reading
+  read_as join_request_lem = JoinRequest
+  read_as join_accept_lem = JoinAccept (length f)
+  read_as data_frame_lem = Data (data_of f)
 
-  reads-as : (k : Needs) → Is k f → readOf f ≡ readAs k
-  unfolding readAs
-  reads-as join-request h = reads-request f h
-  reads-as join-accept h = reads-accept f (length f) h
-  reads-as data-frame h = reads-data f h
+  reads_as : (k : Needs) → Is k f → read_of f ≡ read_as k
+  unfolding read_as
+  reads_as join_request_lem h = reads_request f h
+  reads_as join_accept_lem h = reads_accept f (length f) h
+  reads_as data_frame_lem h = reads_data f h
 
   -- a join-accept has the length that it has
-  own-length : (n : ℕ) → IsJoinAccept f n → IsJoinAccept f (length f)
-  own-length n h = record { version = h .version; type = h .type; long = refl; either = rw (h .long) (h .either) }
+  own_length : (n : ℕ) → IsJoinAccept f n → IsJoinAccept f (length f)
+  own_length n h = record { version = h.version; type = h.type; long = refl; either = rw h.long h.either }
 
   -- an accepted frame of another type gives 4
-  another : (k : Needs) (r : Reading) → Says f r → numberOf r ≡ 0 → (Is k f → ⊥) → (s : Refusal) × ByReading k f s
+  another : (k : Needs) (r : Reading) → Says f r → number_of r ≡ 0 → (Is k f → ⊥) → (s : Refusal) × ByReading k f s
   another k r s z n = (refused 4, other (passes f r s z) n refl)
 
   -- the frame is what is needed, or reading gives a refusal
-  sorted : (k : Needs) (r : Reading) → readOf f ≡ r → Says f r → Is k f ⊎ ((s : Refusal) × ByReading k f s)
-  sorted join-request JoinRequest q s = inl s
-  sorted join-request (JoinAccept n) q s = inr (another join-request (JoinAccept n) s refl (λ h. omega arith))
-  sorted join-request (Data d) q s = inr (another join-request (Data d) s refl (λ h. omega arith))
-  sorted join-request (Refused r) q s = inr (r, keeps q)
-  sorted join-accept JoinRequest q s = inr (another join-accept JoinRequest s refl (λ h. omega arith))
-  sorted join-accept (JoinAccept n) q s = inl (own-length n s)
-  sorted join-accept (Data d) q s = inr (another join-accept (Data d) s refl (λ h. omega arith))
-  sorted join-accept (Refused r) q s = inr (r, keeps q)
-  sorted data-frame JoinRequest q s = inr (another data-frame JoinRequest s refl (λ h. omega arith))
-  sorted data-frame (JoinAccept n) q s = inr (another data-frame (JoinAccept n) s refl (λ h. omega arith))
-  sorted data-frame (Data d) q s = inl (s .0)
-  sorted data-frame (Refused r) q s = inr (r, keeps q)
+  sorted : (k : Needs) (r : Reading) → read_of f ≡ r → Says f r → Is k f ⊎ ((s : Refusal) × ByReading k f s)
+  sorted join_request_lem JoinRequest q s = inl s
+  sorted join_request_lem (JoinAccept n) q s = inr (another join_request_lem (JoinAccept n) s refl (λ h. omega arith))
+  sorted join_request_lem (Data d) q s = inr (another join_request_lem (Data d) s refl (λ h. omega arith))
+  sorted join_request_lem (Refused r) q s = inr (r, keeps q)
+  sorted join_accept_lem JoinRequest q s = inr (another join_accept_lem JoinRequest s refl (λ h. omega arith))
+  sorted join_accept_lem (JoinAccept n) q s = inl (own_length n s)
+  sorted join_accept_lem (Data d) q s = inr (another join_accept_lem (Data d) s refl (λ h. omega arith))
+  sorted join_accept_lem (Refused r) q s = inr (r, keeps q)
+  sorted data_frame_lem JoinRequest q s = inr (another data_frame_lem JoinRequest s refl (λ h. omega arith))
+  sorted data_frame_lem (JoinAccept n) q s = inr (another data_frame_lem (JoinAccept n) s refl (λ h. omega arith))
+  sorted data_frame_lem (Data d) q s = inl s.0
+  sorted data_frame_lem (Refused r) q s = inr (r, keeps q)
 
-  pub either-way : (k : Needs) → Is k f ⊎ ((s : Refusal) × ByReading k f s)
-  either-way k = sorted k (readOf f) refl (answers f)
+  pub either_way_lem : (k : Needs) → Is k f ⊎ ((s : Refusal) × ByReading k f s)
+  either_way_lem k = sorted k (read_of f) refl (answers f)
 
   -- the number that reading gives is one of its own
-  of-fault : (x : Fault) → T (ofReading (numberOfFault x))
-  of-fault too-long = tt
-  of-fault too-short = tt
-  of-fault version = tt
-  of-fault type = tt
-  of-fault join-length = tt
-  of-fault header = tt
+  of_fault : (x : Fault) → T (of_reading (number_of_fault x))
+  of_fault too_long = tt
+  of_fault too_short = tt
+  of_fault version = tt
+  of_fault type = tt
+  of_fault join_length = tt
+  of_fault header = tt
 
-  pub reading-number : (k : Needs) (r : Refusal) → ByReading k f r → T (ofReading (r .number))
-  reading-number k r (keeps q) = let g = refusal-read f q in rw (g .is) (of-fault (g .fault))
-  reading-number k r (other p n e) = rw e tt
+  pub reading_number : (k : Needs) (r : Refusal) → ByReading k f r → T (of_reading r.number)
+  reading_number k r (keeps q) = let g = refusal_read f q in rw g.is (of_fault g.fault)
+  reading_number k r (other p n e) = rw e tt
 
 -- ---- what the call gives
 
 module _ {A : Type 0} (x : A) (e : Refusal → A) (f : List ℕ) where
   -- of a frame that is needed, x
-  pub needed : (k : Needs) → Is k f → on k x e (readOf f) ≡ x
-  unfolding readAs
-  needed join-request h = ap (on join-request x e) (reads-as f join-request h)
-  needed join-accept h = ap (on join-accept x e) (reads-as f join-accept h)
-  needed data-frame h = ap (on data-frame x e) (reads-as f data-frame h)
+  pub needed : (k : Needs) → Is k f → on k x e (read_of f) ≡ x
+  unfolding read_as
+  needed join_request_lem h = ap (on join_request_lem x e) (reads_as f join_request_lem h)
+  needed join_accept_lem h = ap (on join_accept_lem x e) (reads_as f join_accept_lem h)
+  needed data_frame_lem h = ap (on data_frame_lem x e) (reads_as f data_frame_lem h)
 
   -- of a refused reading, its own refusal
-  keeps-refusal : (k : Needs) (r : Refusal) → on k x e (Refused r) ≡ e r
-  keeps-refusal join-request r = refl
-  keeps-refusal join-accept r = refl
-  keeps-refusal data-frame r = refl
+  keeps_refusal : (k : Needs) (r : Refusal) → on k x e (Refused r) ≡ e r
+  keeps_refusal join_request_lem r = refl
+  keeps_refusal join_accept_lem r = refl
+  keeps_refusal data_frame_lem r = refl
 
   -- of a frame of another type, 4
-  other-gives : (k : Needs) (r : Reading) → Says f r → Passes f → (Is k f → ⊥) → on k x e r ≡ e (refused 4)
-  other-gives join-request JoinRequest s p n = absurd (n s)
-  other-gives join-request (JoinAccept m) s p n = refl
-  other-gives join-request (Data d) s p n = refl
-  other-gives join-request (Refused r) s p n = absurd (not-both f r s p)
-  other-gives join-accept JoinRequest s p n = refl
-  other-gives join-accept (JoinAccept m) s p n = absurd (n (own-length f m s))
-  other-gives join-accept (Data d) s p n = refl
-  other-gives join-accept (Refused r) s p n = absurd (not-both f r s p)
-  other-gives data-frame JoinRequest s p n = refl
-  other-gives data-frame (JoinAccept m) s p n = refl
-  other-gives data-frame (Data d) s p n = absurd (n (s .0))
-  other-gives data-frame (Refused r) s p n = absurd (not-both f r s p)
+  other_gives : (k : Needs) (r : Reading) → Says f r → Passes f → (Is k f → ⊥) → on k x e r ≡ e (refused 4)
+  other_gives join_request_lem JoinRequest s p n = absurd (n s)
+  other_gives join_request_lem (JoinAccept m) s p n = refl
+  other_gives join_request_lem (Data d) s p n = refl
+  other_gives join_request_lem (Refused r) s p n = absurd (not_both f r s p)
+  other_gives join_accept_lem JoinRequest s p n = refl
+  other_gives join_accept_lem (JoinAccept m) s p n = absurd (n (own_length f m s))
+  other_gives join_accept_lem (Data d) s p n = refl
+  other_gives join_accept_lem (Refused r) s p n = absurd (not_both f r s p)
+  other_gives data_frame_lem JoinRequest s p n = refl
+  other_gives data_frame_lem (JoinAccept m) s p n = refl
+  other_gives data_frame_lem (Data d) s p n = absurd (n s.0)
+  other_gives data_frame_lem (Refused r) s p n = absurd (not_both f r s p)
 
   -- so what reading gives is handed on
-  pub handed-on : (k : Needs) (r : Refusal) → ByReading k f r → on k x e (readOf f) ≡ e r
-  handed-on k r (keeps q) = ap (on k x e) q ∙ keeps-refusal k r
-  handed-on k r (other p n q) = other-gives k (readOf f) (answers f) p n ∙ ap e (sym q)
+  pub handed_on : (k : Needs) (r : Refusal) → ByReading k f r → on k x e (read_of f) ≡ e r
+  handed_on k r (keeps q) = ap (on k x e) q ∙ keeps_refusal k r
+  handed_on k r (other p n q) = other_gives k (read_of f) (answers f) p n ∙ ap e (sym q)
 
 -- a part h of what the call gives, where h finds the refusal
-pub on-through : {A B : Type 0} (h : A → B) (k : Needs) (f : List ℕ) (x : A) (e : Refusal → A) (e′ : Refusal → B)
-    → ((r : Refusal) → (r .number ≡ 0 → ⊥) → h (e r) ≡ e′ r) → h (on k x e (readOf f)) ≡ on k (h x) e′ (readOf f)
-on-through h k f x e e′ found =
-    ⊎-elim (λ i. ap h (needed x e f k i) ∙ sym (needed (h x) e′ f k i))
+pub on_through : {A B : Type 0} (h : A → B) (k : Needs) (f : List ℕ) (x : A) (e : Refusal → A) (e' : Refusal → B)
+    → ((r : Refusal) → (r.number ≡ 0 → ⊥) → h (e r) ≡ e' r) → h (on k x e (read_of f)) ≡ on k (h x) e' (read_of f)
+on_through h k f x e e' found =
+    ⊎_elim (λ i. ap h (needed x e f k i) ∙ sym (needed (h x) e' f k i))
     (λ s.
-    ap h (handed-on x e f k (s .0) (s .1))
-    ∙ found (s .0) (λ z. rw z at (reading-number f k (s .0) (s .1)))
-    ∙ sym (handed-on (h x) e′ f k (s .0) (s .1)))
-    (either-way f k)
+    ap h (handed_on x e f k s.0 s.1)
+    ∙ found s.0 (λ z. rw z at (reading_number f k s.0 s.1))
+    ∙ sym (handed_on (h x) e' f k s.0 s.1))
+    (either_way_lem f k)
 
 -- ---- the law
 
 -- an answer tells the refusal that it says
 module _ {A : Type 0} (e : Refusal → A) (says : ℕ → A) (told : A → Refusal) (told-e : (r : Refusal) → told (e r) ≡ r)
     (told-says : (n : ℕ) → told (says n) ≡ refused n) where
-  pub after-reading : (k : Needs) (f : List ℕ) {cs : List Condition} {x : A} → (Is k f → due.Gives says cs x)
-      → AfterReading e says k f cs (on k x e (readOf f))
-  after-reading k f {cs} {x} g =
+  pub after_reading : (k : Needs) (f : List ℕ) {cs : List Condition} {x : A} → (Is k f → due.Gives says cs x)
+      → AfterReading e says k f cs (on k x e (read_of f))
+  after_reading k f {cs} {x} g =
       record {
         reading =
             λ r o.
             record {
               there =
                   λ q.
-                  ⊎-elim
-                  (λ i. absurd (due.no-other says told told-says (g i) r o (ap told (sym (needed x e f k i) ∙ q) ∙ told-e r)))
+                  ⊎_elim
+                  (λ i. absurd (due.no_other says told told-says (g i) r o (ap told (sym (needed x e f k i) ∙ q) ∙ told-e r)))
                   (λ s.
                   subst (λ (t : Refusal). ByReading k f t)
-                  (sym (told-e (s .0)) ∙ ap told (sym (handed-on x e f k (s .0) (s .1)) ∙ q) ∙ told-e r) (s .1))
-                  (either-way f k);
-              back = handed-on x e f k r;
+                  (sym (told-e s.0) ∙ ap told (sym (handed_on x e f k s.0 s.1) ∙ q) ∙ told-e r) s.1)
+                  (either_way_lem f k);
+              back = handed_on x e f k r;
             };
         own =
             λ n p.
             record {
               there =
                   λ q.
-                  ⊎-elim (λ i. (i, g i .exactly n .there (sym (needed x e f k i) ∙ q)))
+                  ⊎_elim (λ i. (i, ((g i).exactly n).there (sym (needed x e f k i) ∙ q)))
                   (λ s.
-                  let is : s .0 ≡ refused n =
-                  sym (told-e (s .0)) ∙ ap told (sym (handed-on x e f k (s .0) (s .1)) ∙ q) ∙ told-says n in
+                  let is : s.0 ≡ refused n =
+                  sym (told-e s.0) ∙ ap told (sym (handed_on x e f k s.0 s.1) ∙ q) ∙ told-says n in
                   absurd
-                  (due.refuted (ofReading n) (subst (λ (t : Refusal). T (ofReading (t .number))) is (reading-number f k (s .0) (s .1))) p))
-                  (either-way f k);
-              back = λ h. needed x e f k (h .0) ∙ g (h .0) .exactly n .back (h .1);
+                  (due.refuted (of_reading n) (subst (λ (t : Refusal). T (of_reading t.number)) is (reading_number f k s.0 s.1)) p))
+                  (either_way_lem f k);
+              back = λ h. needed x e f k h.0 ∙ ((g h.0).exactly n).back h.1;
             };
       }
 
 -- of a refusal that stands beside other values
-pub refusal-after : (k : Needs) (f : List ℕ) {cs : List Condition} {x : Refusal} → (Is k f → due.Gives refused cs x)
-    → AfterReading (λ r. r) refused k f cs (on k x (λ r. r) (readOf f))
-refusal-after = after-reading (λ r. r) refused (λ r. r) (λ r. refl) (λ n. refl)
+pub refusal_after : (k : Needs) (f : List ℕ) {cs : List Condition} {x : Refusal} → (Is k f → due.Gives refused cs x)
+    → AfterReading (λ r. r) refused k f cs (on k x (λ r. r) (read_of f))
+refusal_after = after_reading (λ r. r) refused (λ r. r) (λ r. refl) (λ n. refl)

@@ -1,14 +1,14 @@
 -- `aes::field::inverse_substitution::table` gives its table: every entry is computed by its rule and compared, the whole table in one
 -- test, in which the inverses are looked up.
 -- Assumes nothing.
-use Rattle·aes·specs.Field.{fromBits, invAffine}
-use Rattle·aes·proofs.Tables.{invSBox-listed}
-use Rattle·aes·proofs.field.inverse_substitution.table.Statement.{statement}
-use Rattle·aes·proofs.field.inverse_substitution.table.Tie as tie
+use Rattle.aes.specs.Field.{from_bits, inv_affine}
+use Rattle.aes.proofs.Tables.{inv_sbox-listed}
+use Rattle.aes.proofs.field.inverse_substitution.table.Statement.{statement}
+use Rattle.aes.proofs.field.inverse_substitution.table.Tie as tie
 
 returns : tie.Need-returns
-unfolding fromBits invAffine
-returns c = invSBox-listed
+unfolding from_bits inv_affine
+returns c = inv_sbox-listed
 
 pub table-spec : {M : Type 1} → statement M
 table-spec = tie.close (tie.spec returns)

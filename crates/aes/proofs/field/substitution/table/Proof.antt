@@ -1,14 +1,14 @@
 -- `aes::field::substitution::table` gives its table: every entry is computed by its rule and compared, the whole table in one
 -- test, in which the inverses are looked up.
 -- Assumes nothing.
-use Rattle·aes·specs.Field.{fromBits, affine}
-use Rattle·aes·proofs.Tables.{sBox-listed}
-use Rattle·aes·proofs.field.substitution.table.Statement.{statement}
-use Rattle·aes·proofs.field.substitution.table.Tie as tie
+use Rattle.aes.specs.Field.{from_bits, affine}
+use Rattle.aes.proofs.Tables.{s_box-listed}
+use Rattle.aes.proofs.field.substitution.table.Statement.{statement}
+use Rattle.aes.proofs.field.substitution.table.Tie as tie
 
 returns : tie.Need-returns
-unfolding fromBits affine
-returns c = sBox-listed
+unfolding from_bits affine
+returns c = s_box-listed
 
 pub table-spec : {M : Type 1} → statement M
 table-spec = tie.close (tie.spec returns)
