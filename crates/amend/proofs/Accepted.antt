@@ -1,6 +1,6 @@
 -- What an accepted opening says of the frame, and which frames opening accepts.
 -- Assumes nothing.
-use mathlib.Core.Path.{◌≡◌, refl, sym, ap, ◌∙◌}
+use mathlib.Core.Path.{◌≡◌, refl, ap, ◌∙◌}
 use mathlib.Core.Bool.{Bool, true, false}
 use mathlib.Core.List.{List}
 use Prim.Native.Nat.{ℕ, ◌%◌}
@@ -9,8 +9,6 @@ use lib.Dec.{eqb}
 use borrow.Author.Tests.{eqb-true}
 use Rattle.base.specs.Bytes.{pick}
 use Rattle.frame_security.specs.Mic.{same_bytes}
-use Rattle.frame_security.specs.Sealing.{resealed}
-use Rattle.frame_security.proofs.SealedFrames.{resealed_same}
 use Rattle.frame_security.proofs.MicCompared.{same_of_test, test_of_same}
 use Rattle.frame.specs.Conditions.{IsData}
 use Rattle.frame.specs.Layout.{fcnt, mic_of_of}
@@ -45,18 +43,18 @@ module _ (f nwk app : List ℕ) (counter : ℕ) where
       open_data_lem f nwk app counter a.data_frame_lem
       ∙ counter_right f nwk app counter a.low_half
       ∙ ap (λ (t : Bool). pick t (accepted_opening (opened_of f nwk app counter)) (refused_opening (refused 5)))
-      (resealed_same f nwk app counter ∙ test_of_same (data_mic_of nwk (covered f) counter) (mic_of_of f) a.signed)
+      (test_of_same (data_mic_of nwk (covered f) counter) (mic_of_of f) a.signed)
 
   data_passed : IsData f → (open_data f nwk app counter).refusal.number ≡ 0 → Accepted f nwk counter
   unfolding open_data open_checked_of
   data_passed h e =
-      let passed = both_passed (eqb (counter % 65536) (fcnt f)) (same_bytes (resealed f nwk app counter) f)
+      let passed = both_passed (eqb (counter % 65536) (fcnt f)) (same_bytes (data_mic_of nwk (covered f) counter) (mic_of_of f))
       (accepted_opening (opened_of f nwk app counter)) (refused_opening (refused 5)) (refused_opening (refused 14)) e
       (λ q. omega arith) (λ q. omega arith) in
       record {
         data_frame_lem = h;
         low_half = eqb-true (counter % 65536) (fcnt f) passed.0;
-        signed = same_of_test (data_mic_of nwk (covered f) counter) (mic_of_of f) (sym (resealed_same f nwk app counter) ∙ passed.1);
+        signed = same_of_test (data_mic_of nwk (covered f) counter) (mic_of_of f) passed.1;
       }
 
   by_reading : (r : Reading) → Says f r → (on_data (λ d. open_data f nwk app counter) refused_opening r).refusal.number ≡ 0

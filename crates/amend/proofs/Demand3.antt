@@ -14,18 +14,17 @@ use borrow.Author.Tests.{lt-ltb, le-ltb}
 use Rattle.base.specs.Bytes.{pick, at}
 use Rattle.base.proofs.Cases.{by_order}
 use Rattle.frame.specs.Layout.{header, payload}
-use Rattle.frame_security.specs.Sealing.{sealed, clear_of}
+use Rattle.frame_security.specs.Sealing.{sealed}
 use Rattle.frame.specs.Refusals.{refused}
 use Rattle.amend.specs.declared.amending.Open.{Open}
 use Rattle.amend.specs.declared.opening.Opened.{Opened}
 use Rattle.amend.specs.declared.amending.Amended.{Amended}
 use Rattle.amend.specs.Amending.{payload_length_of, amend_of}
 use Rattle.amend.specs.OpenFrame.{opened_of, open_of}
-use Rattle.amend.specs.AmendmentLists.{Amendment, amended_by, payload_by, Stands}
+use Rattle.amend.specs.AmendmentLists.{Amendment, amended_by, payload_by, clear_of, Stands}
 use Rattle.amend.proofs.Accepted.{Accepted, accepted_opens, opens_accepted}
 use Rattle.amend.proofs.OneByte.{held-take, payload_count, again, amended_opened}
-use Rattle.frame_security.proofs.SealedFrames.{clear_long, sealed_long, sealed-header, sealed_clear}
-use Rattle.amend.proofs.Sealed.{accepted-sealed, sealed-accepted}
+use Rattle.amend.proofs.Sealed.{clear_long, accepted-sealed, sealed_long, sealed-header, sealed_clear, sealed-accepted}
 use Rattle.amend.proofs.Within.{amend_inside, amend_outside}
 
 -- ---- the payload after a list

@@ -13,16 +13,16 @@ use Rattle.base.specs.Bytes.{pick, at, ◌⊕◌}
 use Rattle.aes.specs.KeyExpansion.{key_expansion_of}
 use Rattle.frame.specs.Conditions.{IsData}
 use Rattle.frame.specs.Layout.{fport, fhdr_length_of, payload_start_of, header_end_of, header, payload}
-use Rattle.frame_security.specs.Sealing.{sealed, clear_of}
+use Rattle.frame_security.specs.Sealing.{sealed}
 use Rattle.frame_security.specs.Security.{stream_at, covered, message, data_mic_of, frame_key, by_network_key_of}
-use Rattle.frame.proofs.LayoutLaws.{placed, length-header, length-payload, before_mic}
+use Rattle.frame.proofs.LayoutLaws.{placed, length-header, length-payload}
 use Rattle.frame_security.proofs.SecurityLaws.{by_same, stream_at_same, crypted_twice, crypted-set}
 use Rattle.amend.specs.Amending.{open_state, encrypted_byte, payload_length_of, last_place, carried, resigned, amended_to, schedule}
 use Rattle.amend.specs.OpenFrame.{held, chains_of_of, opened_of}
+use Rattle.amend.specs.AmendmentLists.{clear_of}
 use Rattle.amend.proofs.Accepted.{Accepted}
 use Rattle.amend.proofs.Carrying.{carried-message, resigned-message}
-use Rattle.frame_security.proofs.SealedFrames.{clear_long, sealed_long, sealed-covered}
-use Rattle.amend.proofs.Sealed.{sealed-accepted}
+use Rattle.amend.proofs.Sealed.{covered_parts, clear_long, sealed_long, sealed-covered, sealed-accepted}
 use Rattle.amend.proofs.Within.{length-within, amended_is}
 
 -- a byte changed behind a front
@@ -134,7 +134,7 @@ module _ (f nwk app : List ℕ) (counter k v : ℕ) (a : Accepted f nwk counter)
       let clear = clear_of f nwk app counter in
       let there : header_end_of f + k ≡ length (header f) + k = ap (λ (n : ℕ). n + k) (sym (length-header f)) in
       take-set-lt (length f - 4) (held f) place byte (omega (arith, length-payload f, (placed f h).payload))
-      ∙ ap (λ (l : List ℕ). set l place byte) (covered-held ∙ sym (before_mic f))
+      ∙ ap (λ (l : List ℕ). set l place byte) (covered-held ∙ sym (covered_parts f h))
       ∙ ap (λ (n : ℕ). set (header f ++ payload f) n byte) there
       ∙ set_behind (header f) (payload f) k byte
       ∙ ap (λ (l : List ℕ). header f ++ set l k byte) (sym (crypted_twice key (header f) counter (payload f)))

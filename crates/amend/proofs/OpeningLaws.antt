@@ -36,9 +36,7 @@ use Rattle.frame.specs.Refusals.{refused}
 use Rattle.amend.specs.Amending.{open_state, last_place, chained, signed_from}
 use Rattle.amend.specs.declared.amending.Open.{Open}
 use Rattle.amend.specs.OpenFrame.{held, chains_of_of, opened_of, refused_opening, accepted_opening, open_checked_of, open_data, open_of}
-use Rattle.frame_security.specs.Sealing.{resealed}
 use Rattle.frame_security.specs.Security.{covered, mic_block_of, message, data_mic_of}
-use Rattle.frame_security.proofs.SealedFrames.{resealed_same}
 use Rattle.amend.proofs.Stores.{part_after, part-stored}
 use Rattle.amend.proofs.Chains.{Right, table_right, carried_table, block_behind, signed_right}
 
@@ -110,20 +108,16 @@ tested_is f nwk counter lo hi hk hc hm hg ht =
 
 -- the answer by that test: the state, or 5
 module _ (f nwk app : List ℕ) (counter : ℕ) {t : Bool} (e : t ≡ same_bytes (data_mic_of nwk (covered f) counter) (mic_of_of f)) where
-  -- it is whether sealing gives the frame again
-  resealing : t ≡ same_bytes (resealed f nwk app counter) f
-  resealing = e ∙ sym (resealed_same f nwk app counter)
-
   pub checked_opens : t ≡ true → {s : Open} → s ≡ opened_of f nwk app counter → accepted_opening s ≡ open_checked_of f nwk app counter
   unfolding open_checked_of
   checked_opens h made =
       ap accepted_opening made
-      ∙ ap (λ (b : Bool). pick b (accepted_opening (opened_of f nwk app counter)) (refused_opening (refused 5))) (sym h ∙ resealing)
+      ∙ ap (λ (b : Bool). pick b (accepted_opening (opened_of f nwk app counter)) (refused_opening (refused 5))) (sym h ∙ e)
 
   pub checked_refuses : t ≡ false → refused_opening (refused 5) ≡ open_checked_of f nwk app counter
   unfolding open_checked_of
   checked_refuses h =
-      ap (λ (b : Bool). pick b (accepted_opening (opened_of f nwk app counter)) (refused_opening (refused 5))) (sym h ∙ resealing)
+      ap (λ (b : Bool). pick b (accepted_opening (opened_of f nwk app counter)) (refused_opening (refused 5))) (sym h ∙ e)
 
 -- the frame stored at the front of 255 zeros
 pub stored_frame : (f : List ℕ) → length f ≤ 255 → sets (replicate {A = ℕ} 255 0) 0 f ≡ held f
@@ -171,3 +165,8 @@ module _ (f nwk app : List ℕ) (counter : ℕ) where
       → open_of f nwk app counter ≡ refused_opening (other_refusal_of (read_of f))
   unfolding open_of
   open_other h = not_data refused_opening (λ d. open_data f nwk app counter) (read_of f) h
+
+-- the counter that a reading holds is the frame's
+pub read_fcnt_lem : (f : List ℕ) {d : DataFrame} → read_of f ≡ Data d → d.fcnt ≡ fcnt f
+unfolding data_of
+read_fcnt_lem f e = ap (λ (d : DataFrame). d.fcnt) (data_fields f e)

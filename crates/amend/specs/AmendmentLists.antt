@@ -3,13 +3,14 @@
 -- Assumes nothing.
 use Rattle.std.specs.Prelude.{◌≡◌, List, [], ◌∷◌, ℕ, ◌/◌, ◌%◌, ltb, eqb, length, take, set}
 use Rattle.base.specs.Bytes.{pick}
-use Rattle.frame.specs.Layout.{header}
+use Rattle.frame.specs.Layout.{header, payload}
+use Rattle.frame_security.specs.Security.{crypted, frame_key}
 use Rattle.amend.specs.declared.amending.Open.{Open}
 use Rattle.amend.specs.declared.amending.Amended.{Amended}
 use Rattle.frame.specs.Refusals.{not_refused}
 use Rattle.frame.specs.declared.refusals.Refusal.{Refusal}
 use Rattle.amend.specs.Amending.{amend_of}
-use Rattle.frame_security.specs.Sealing.{sealed, clear_of}
+use Rattle.frame_security.specs.Sealing.{sealed}
 use Rattle.amend.specs.OpenFrame.{accepted_opening, open_of}
 
 -- an amendment: a payload offset and the clear value there
@@ -21,6 +22,10 @@ pub record Amendment : Type 0 where
 unfoldable pub amended_by : Open → List Amendment → Open
 amended_by s [] = s
 amended_by s (a ∷ list) = amended_by (amend_of s a.offset a.value).state list
+
+-- the clear payload of a frame
+abbrev pub clear_of : List ℕ → List ℕ → List ℕ → ℕ → List ℕ
+clear_of f nwk app counter = crypted (frame_key f nwk app) (header f) counter (payload f)
 
 -- a clear payload after the amendments of a list that name a byte of it
 unfoldable pub payload_by : List ℕ → List Amendment → List ℕ
@@ -60,7 +65,7 @@ amended_frame f nwk app counter es =
 
 -- what holds of the state after a list of amendments to an opened frame
 pub record Stands (f nwk app : List ℕ) (counter : ℕ) (list : List Amendment) (s : Open) : Type 0 where
-  -- the frame in it: what sealing makes of the original header and the payload so amended
+  -- the frame in it: the original header, the payload so amended and encrypted, and the MIC of that
   pub frame : take s.length s.frame ≡ sealed nwk app counter (header f) (payload_by (clear_of f nwk app counter) list)
   -- as long as the original
   pub long : s.length ≡ length f

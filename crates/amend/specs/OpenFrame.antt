@@ -2,17 +2,17 @@
 -- type, 14 and 5, in that order, with a state that is all zeros; or the frame, both keys, the counter and the chain
 -- values of its MIC.
 -- Assumes nothing.
-use Rattle.std.specs.Prelude.{List, ◌++◌, ℕ, ◌+◌, ◌-◌, ◌/◌, ◌%◌, leb, length}
+use Rattle.std.specs.Prelude.{List, ◌++◌, ℕ, ◌+◌, ◌-◌, ◌/◌, ◌%◌, leb, eqb, length}
 use Rattle.base.specs.Bytes.{pick, tab, at, zeros}
 use Rattle.aes.specs.KeyExpansion.{key_expansion_of}
 use Rattle.cmac.specs.Rfc4493.{chain}
 use Rattle.frame_security.specs.Mic.{same_bytes}
+use Rattle.frame.specs.Layout.{fcnt, mic_of_of}
 use Rattle.frame.specs.ReadingNumbers.{on_data}
 use Rattle.frame.specs.Reading.{read_of}
 use Rattle.frame.specs.Refusals.{refused, not_refused}
 use Rattle.frame.specs.declared.refusals.Refusal.{Refusal}
-use Rattle.frame_security.specs.Security.{of_counter, covered, message}
-use Rattle.frame_security.specs.Sealing.{resealed}
+use Rattle.frame_security.specs.Security.{covered, message, data_mic_of}
 use Rattle.amend.specs.declared.amending.Open.{Open}
 use Rattle.amend.specs.declared.opening.Opened.{Opened}
 use Rattle.amend.specs.Amending.{open_state, last_place}
@@ -41,16 +41,16 @@ refused_opening r = record { refusal = r; state = nothing }
 abbrev pub accepted_opening : Open → Opened
 accepted_opening s = record { refusal = not_refused; state = s }
 
--- 5 where sealing its own header and clear payload does not give the frame: its MIC differs, for all else does give it
+-- 5 where the MIC differs
 unfoldable pub open_checked_of : List ℕ → List ℕ → List ℕ → ℕ → Opened
 open_checked_of f nwk app counter =
-    pick (same_bytes (resealed f nwk app counter) f) (accepted_opening (opened_of f nwk app counter))
+    pick (same_bytes (data_mic_of nwk (covered f) counter) (mic_of_of f)) (accepted_opening (opened_of f nwk app counter))
     (refused_opening (refused 5))
 
 -- of a data frame: 14 where the counter's low half is not the frame's
 unfoldable pub open_data : List ℕ → List ℕ → List ℕ → ℕ → Opened
 open_data f nwk app counter =
-    pick (of_counter counter f) (open_checked_of f nwk app counter) (refused_opening (refused 14))
+    pick (eqb (counter % 65536) (fcnt f)) (open_checked_of f nwk app counter) (refused_opening (refused 14))
 
 -- a refused reading keeps its number, a frame of another type answers 4, a data frame goes on
 unfoldable pub open_of : List ℕ → List ℕ → List ℕ → ℕ → Opened

@@ -16,13 +16,13 @@ use Rattle.base.specs.Bytes.{pick}
 use Rattle.base.proofs.Cases.{by_bool, by_order}
 use Rattle.frame.specs.Layout.{header}
 use Rattle.frame.specs.Refusals.{refused, not_refused}
-use Rattle.frame_security.specs.Sealing.{sealed, clear_of}
+use Rattle.frame_security.specs.Sealing.{sealed}
 use Rattle.amend.specs.declared.amending.Open.{Open}
 use Rattle.amend.specs.declared.amending.Amended.{Amended}
 use Rattle.amend.specs.declared.opening.Opened.{Opened}
 use Rattle.amend.specs.Amending.{payload_length_of, amend_of}
 use Rattle.amend.specs.OpenFrame.{open_of}
-use Rattle.amend.specs.AmendmentLists.{Amendment, amended_by, payload_by, Stands}
+use Rattle.amend.specs.AmendmentLists.{Amendment, amended_by, payload_by, clear_of, Stands}
 use Rattle.amend.specs.SignedOnce.{all_inside_of}
 use Rattle.amend.proofs.Accepted.{accepted_opens, opens_accepted}
 use Rattle.amend.proofs.Demand3.{demand_3_lem}

@@ -1,23 +1,18 @@
 -- Where the parts of a frame lie: each place of an accepted data frame is within it, header, payload and MIC make up the
--- frame, and reading looks at the length and the header alone. The bounds are arithmetic from what `IsData` says.
+-- frame, and reading looks at nothing past the header. The bounds are arithmetic from what `IsData` says.
 -- Assumes nothing.
 use mathlib.Core.Path.{◌≡◌, sym, ap, ◌∙◌}
 use mathlib.Core.List.{List, ◌++◌}
 use Prim.Native.Nat.{ℕ, ◌+◌, ◌-◌, ◌%◌, ◌≤◌, ◌<◌}
 use native.Mathlib.Omega.{arith}
-use lib.ListN.{length, take, drop, length-take, length-drop, take-append-drop}
-use lib.Seq.{drop-drop, take-add, take_all}
+use lib.ListN.{length, drop, length-take, length-drop, take-append-drop}
+use lib.Seq.{drop-drop, take_all}
 use Rattle.base.specs.Bytes.{at}
 use Rattle.base.specs.Storing.{run_at}
-use Rattle.base.proofs.Cases.{by_order}
 use Rattle.base.proofs.StoringLaws.{run_inside}
-use Rattle.frame.specs.Layout.{fhdr_length_of, payload_start_of, payload_end_of, header_end_of, header, payload, mic_of_of}
+use Rattle.frame.specs.Layout.{fhdr_length_of, fport, payload_start_of, payload_end_of, header_end_of, header, payload, mic_of_of}
 use Rattle.frame.specs.Reading.{port_of_of, payload_of, data_of, read_join_request_of, read_join_accept_of, read_data_of, read_type_of, read_of}
 use Rattle.frame.specs.Conditions.{IsData}
-use Rattle.frame.specs.Refusals.{refusal}
-use Rattle.frame.specs.declared.parser.FPort.TheVariants.{Port}
-use Rattle.frame.specs.declared.parser.Reading.TheVariants.{Refused}
-use Rattle.frame.proofs.ReadingSteps.{port_there, port_absent, too_short as short-read}
 
 -- ---- places
 
@@ -67,52 +62,30 @@ mic_run f h =
     run_inside 4 f (length f - 4) (omega arith)
     ∙ take_all 4 (drop (length f - 4) f) (omega (arith, length-drop (length f - 4) f))
 
--- header and payload are all ahead of the MIC
-pub before_mic : (f : List ℕ) → header f ++ payload f ≡ take (length f - 4) f
-before_mic f =
-    let whole : header_end_of f + (payload_end_of f - header_end_of f) ≡ length f - 4 = omega arith in
-    sym (take-add (header_end_of f) (payload_end_of f - header_end_of f) f) ∙ ap (λ (n : ℕ). take n f) whole
-
 -- ---- what reading looks at
 
-module _ (f g : List ℕ) (long : length f ≡ length g) (same : (i : ℕ) → i < header_end_of f → at f i ≡ at g i) where
-  module _ (enough : 12 ≤ length f) where
-    same_0 : at f 0 ≡ at g 0
-    same_0 = same 0 (omega arith)
+module _ (f g : List ℕ) (long : length f ≡ length g) (same : (i : ℕ) → i < payload_start_of f → at f i ≡ at g i) where
+  same_0 : at f 0 ≡ at g 0
+  same_0 = same 0 (omega arith)
 
-    same_5 : at f 5 ≡ at g 5
-    same_5 = same 5 (omega arith)
+  same_5 : at f 5 ≡ at g 5
+  same_5 = same 5 (omega arith)
 
-    same_6 : at f 6 ≡ at g 6
-    same_6 = same 6 (omega arith)
+  same_6 : at f 6 ≡ at g 6
+  same_6 = same 6 (omega arith)
 
-    same_7 : at f 7 ≡ at g 7
-    same_7 = same 7 (omega arith)
+  same_7 : at f 7 ≡ at g 7
+  same_7 = same 7 (omega arith)
 
-    same_fhdr : fhdr_length_of f ≡ fhdr_length_of g
-    same_fhdr = ap (λ (b : ℕ). 7 + b % 16) same_5
+  same_port : fport f ≡ fport g
+  same_port = same (1 + fhdr_length_of f) (omega arith) ∙ ap (λ (b : ℕ). at g (1 + (7 + b % 16))) same_5
 
-    -- where there is a port, it is ahead of the payload
-    same_port : port_of_of f ≡ port_of_of g
-    same_port =
-        by_order (fhdr_length_of f + 6) (length f)
-        (λ l.
-        port_there f l
-        ∙ ap Port (same (1 + fhdr_length_of f) (omega arith) ∙ ap (λ (n : ℕ). at g (1 + n)) same_fhdr)
-        ∙ sym (port_there g (omega (arith, same_fhdr, long))))
-        (λ l. port_absent f (omega arith) ∙ sym (port_absent g (omega (arith, same_fhdr, long))))
+  -- two frames of one length that agree up to the payload have the same fields
+  pub data_same : data_of f ≡ data_of g
+  unfolding data_of port_of_of payload_of
+  data_same = cc (long, same_0, same_5, same_6, same_7, same_port)
 
-    -- two frames of one length that agree ahead of payload and MIC have the same fields
-    pub data_same : data_of f ≡ data_of g
-    unfolding data_of payload_of
-    data_same = cc (long, same_0, same_5, same_6, same_7, same_port)
-
-    -- and read the same
-    enough_same : read_of f ≡ read_of g
-    unfolding read_of read_type_of read_join_request_of read_join_accept_of read_data_of
-    enough_same = cc (long, same_0, same_5, data_same)
-
+  -- and read the same
   pub read_same : read_of f ≡ read_of g
-  read_same =
-      by_order 12 (length f) enough_same
-      (λ l. short-read f l ∙ ap (λ (n : ℕ). Refused (refusal 1 n)) long ∙ sym (short-read g (omega (arith, long))))
+  unfolding read_of read_type_of read_join_request_of read_join_accept_of read_data_of
+  read_same = cc (long, same_0, same_5, data_same)

@@ -4,4 +4,3 @@ pub mod PackedFields
 pub mod PackedLaws
 pub mod ReadingLaws
 pub mod ReadingSteps
-pub mod Replaced

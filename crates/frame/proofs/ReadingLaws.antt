@@ -8,7 +8,7 @@ use Prim.Native.Nat.{ℕ, ◌+◌, ◌-◌, ◌≤◌, ◌<◌}
 use native.Mathlib.Omega.{arith}
 use lib.ListN.{length}
 use Rattle.base.proofs.Cases.{by_order, by_equal}
-use Rattle.frame.specs.Layout.{mtype, major, fcnt, fhdr_length_of}
+use Rattle.frame.specs.Layout.{mtype, major, fhdr_length_of}
 use Rattle.frame.specs.Faults.{Fault, too_long, too_short, version, type, join_length, header, number_of_fault}
 use Rattle.frame.specs.Reading.{refuse, data_of, read_of}
 use Rattle.frame.specs.Conditions.{IsJoinRequest, IsJoinAccept, IsData, WrongJoinLength, request, accept, Gives12, Gives1, Gives2, Gives3, Gives4Join, Gives4Header, Found, Gives}
@@ -141,11 +141,6 @@ data_read f e = (said f e).0
 
 pub data_fields : (f : List ℕ) {d : DataFrame} → read_of f ≡ Data d → d ≡ data_of f
 data_fields f e = (said f e).1
-
--- the counter that it holds is the frame's
-pub read_fcnt_lem : (f : List ℕ) {d : DataFrame} → read_of f ≡ Data d → d.fcnt ≡ fcnt f
-unfolding data_of
-read_fcnt_lem f e = ap (λ (d : DataFrame). d.fcnt) (data_fields f e)
 
 pub refusal_read : (f : List ℕ) {r : Refusal} → read_of f ≡ Refused r → Gives f r
 refusal_read f e = said f e

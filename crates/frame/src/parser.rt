@@ -1,5 +1,5 @@
 // Reading a frame (parser.rs of the crate, as far as reading goes).
-ghost use Rattle.std.specs.Prelude.{◌≡◌, ◌+◌, ◌*◌, ◌%◌, ◌≤◌, min, length};
+ghost use Rattle.std.specs.Prelude.{◌≡◌, ◌+◌, ◌*◌, ◌%◌, ◌≤◌, length};
 ghost use Rattle.frame.specs.Layout.{fhdr_length_of, has_port_of};
 ghost use Rattle.frame.specs.Refusals.{refusal};
 ghost use Rattle.frame.specs.Reading.{port_of_of, held_by_of, payload_of, read_join_request_of, read_join_accept_of, read_data_of, read_type_of, read_of};
@@ -59,17 +59,6 @@ pub fn fhdr_length(fctrl: u8) -> usize
     ensures { result ≡ 7 + fctrl % 16 }
 {
     FHDR_MIN_LEN + wide(fctrl % 16)
-}
-
-// Where the payload of a data frame begins, by where its FOpts end and its MIC begins: past the port, or at the MIC where
-// there is none.
-pub fn header_end(fopts_end: usize, mic: usize) -> usize
-    ensures { result ≡ min (fopts_end + 1) mic }
-{
-    if fopts_end < mic {
-        return fopts_end + 1;
-    }
-    mic
 }
 
 // FCnt of its two bytes, low byte first (4.3.1.5).

@@ -84,3 +84,17 @@ module _ (d : DataParts) (commands body head : List ℕ) where
       fixed_header_of d (length (pick z [] commands)) ++ pick z [] commands ++ p ∷ [] ++ pick z commands body)
       (sym (ne_eqb p 0 n))
       ∙ sym (clear_known (Port p) e)
+
+-- ---- the payload's length, with the port known
+
+module _ (port : FPort) (commands body : List ℕ) where
+  pub body_absent : port ≡ Absent → length body ≡ length (body_of port commands body)
+  body_absent e = ap (λ (q : FPort). length (body_of q commands body)) (sym e)
+
+  pub body_commands : (p : ℕ) → p ≡ 0 → port ≡ Port p → length commands ≡ length (body_of port commands body)
+  body_commands p z e = ap (λ (q : FPort). length (body_of q commands body)) (sym (e ∙ ap Port z))
+
+  pub body_port : (p : ℕ) → (p ≡ 0 → ⊥) → port ≡ Port p → length body ≡ length (body_of port commands body)
+  body_port p n e =
+      ap (λ (z : Bool). length (pick z commands body)) (sym (ne_eqb p 0 n))
+      ∙ ap (λ (q : FPort). length (body_of q commands body)) (sym e)

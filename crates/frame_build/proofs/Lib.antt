@@ -1,9 +1,7 @@
 pub mod DataBuiltLaws
 pub mod DataHeader
 pub mod DataRefusals
-pub mod FilledFrames
 pub mod FirstTest
 pub mod GivenBytes
-pub mod InTurn
 pub mod JoinBodies
 pub mod JoinBuiltLaws

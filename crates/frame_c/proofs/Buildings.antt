@@ -1,4 +1,4 @@
--- A promise to fill, seal or build, with its answer as a number; and the kinds of data frame: any other number is refused before
+-- A building's promise, with its answer as a number; and the kinds of data frame: any other number is refused before
 -- anything is built.
 -- Assumes nothing.
 use mathlib.Core.Path.{◌≡◌, sym, ap, ◌∙◌}
@@ -10,34 +10,33 @@ use lib.ListN.{length, drop}
 use borrow.Author.Tests.{lt-ltb, le-ltb}
 use Rattle.base.specs.Bytes.{pick}
 use Rattle.frame.specs.Refusals.{refused}
-use Rattle.frame.specs.declared.refusals.Refusal.{Refusal}
 use Rattle.frame_build.specs.DataBuilding.{data_refusal_of}
-use Rattle.frame_security.specs.Built.{built_of, out_of, Builds}
-use Rattle.frame_security.specs.declared.sealing.Built.{Built}
-use Rattle.frame_security.specs.declared.sealing.Built.TheVariants.{Frame, Refused}
+use Rattle.frame_build.specs.DataFrames.{built_of, out_of, Builds as BuildsFrame}
+use Rattle.frame_build.specs.declared.creator.Built.{Built}
+use Rattle.frame_build.specs.declared.creator.Built.TheVariants.{Frame, Refused}
 use Rattle.frame_build.specs.declared.creator.data_frame.DataParts.{DataParts}
 use Rattle.frame.specs.PackedReading.{numbered}
 use Rattle.frame_c.specs.CAnswers.{built_answer_of, BuildsInC}
 use Rattle.frame_c.specs.CGiven.{data_refused}
 
--- what was made of equal parts
-pub made : {x y : Refusal} {f g l e : List ℕ} {b : Built} {r : ℕ} → Builds x f l b e → x ≡ y → f ≡ g → r ≡ built_answer_of b
-    → BuildsInC y g l r e
-made {x} {y} {f} {g} {l} {e} {b} {r} p q s a =
+-- what was built of equal parts
+pub made : {n m : ℕ} {f g l e : List ℕ} {b : Built} {r : ℕ} → BuildsFrame n f l b e → n ≡ m → f ≡ g → r ≡ built_answer_of b
+    → BuildsInC m g l r e
+made {n} {m} {f} {g} {l} {e} {b} {r} p q s a =
     record {
       answer =
-          a ∙ ap built_answer_of p.answer ∙ ap (λ (z : Refusal). built_answer_of (built_of z (length f))) q
-          ∙ ap (λ (h : List ℕ). built_answer_of (built_of y (length h))) s;
-      output = p.output ∙ ap (λ (z : Refusal). out_of z.number f l) q ∙ ap (λ (h : List ℕ). out_of y.number h l) s;
+          a ∙ ap built_answer_of p.answer ∙ ap (λ (k : ℕ). built_answer_of (built_of k (length f))) q
+          ∙ ap (λ (h : List ℕ). built_answer_of (built_of m (length h))) s;
+      output = p.output ∙ ap (λ (k : ℕ). out_of k f l) q ∙ ap (λ (h : List ℕ). out_of m h l) s;
     }
 
 -- a refusal by a number that is not 0, which changes nothing
-pub refused_kind : (k : ℕ) {n : ℕ} {f l : List ℕ} {r : ℕ} → eqb k 0 ≡ false → n ≡ k → r ≡ numbered k 0 → BuildsInC (refused n) f l r l
+pub refused_kind : (k : ℕ) {n : ℕ} {f l : List ℕ} {r : ℕ} → eqb k 0 ≡ false → n ≡ k → r ≡ numbered k 0 → BuildsInC n f l r l
 refused_kind k {n} {f} {l} {r} z q a =
     record {
       answer =
           a ∙ ap (λ (t : Bool). built_answer_of (pick t (Frame (length f)) (Refused (refused k)))) (sym z)
-          ∙ ap (λ (m : ℕ). built_answer_of (built_of (refused m) (length f))) (sym q);
+          ∙ ap (λ (m : ℕ). built_answer_of (built_of m (length f))) (sym q);
       output = ap (λ (t : Bool). pick t (f ++ drop (length f) l) l) (sym z) ∙ ap (λ (m : ℕ). out_of m f l) (sym q);
     }
 
@@ -53,12 +52,3 @@ pub of_data : (k : ℕ) (d : DataParts) (cs p : List ℕ) (n : ℕ) → 2 ≤ k 
     → data_refused k d cs p n ≡ data_refusal_of d cs p n
 unfolding data_refused
 of_data k d cs p n l h = simp (le-ltb _ _ l, le-ltb _ _ h)
-
--- what filling and building promise of a kind of data frame
-pub kind_made : (k : ℕ) {d g : DataParts} (cs p : List ℕ) {l : List ℕ} (of : DataParts → List ℕ) {e : List ℕ} {b : Built} {r : ℕ}
-    → 2 ≤ k → k ≤ 5 → d ≡ g → Builds (refused (data_refusal_of d cs p (length l))) (of d) l b e → r ≡ built_answer_of b
-    → BuildsInC (refused (data_refused k g cs p (length l))) (of g) l r e
-kind_made k {d} {g} cs p {l} of lo hi parts built a =
-    made built
-    (ap (λ (x : DataParts). refused (data_refusal_of x cs p (length l))) parts ∙ ap refused (sym (of_data k g cs p (length l) lo hi)))
-    (ap of parts) a

@@ -13,7 +13,7 @@ use Rattle.base.specs.Bytes.{pick}
 use Rattle.base.proofs.Cases.{by_order, by_equal}
 use Rattle.base.specs.Storing.{Put}
 use Rattle.base.proofs.Put.{put_front}
-use Rattle.frame_security.specs.Built.{out_of}
+use Rattle.frame_build.specs.DataFrames.{out_of}
 use Rattle.frame.specs.PackedReading.{numbered}
 use Rattle.frame_c.specs.CAnswers.{or_short_of, Fills}
 

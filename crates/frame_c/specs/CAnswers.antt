@@ -4,8 +4,8 @@
 -- Assumes nothing.
 use Rattle.std.specs.Prelude.{◌≡◌, List, ℕ, ltb, eqb, length}
 use Rattle.base.specs.Bytes.{pick}
-use Rattle.frame_security.specs.Built.{out_of, built_of, built_refusal, built_value}
-use Rattle.frame_security.specs.declared.sealing.Built.{Built}
+use Rattle.frame_build.specs.DataFrames.{out_of, built_of, built_refusal, built_value}
+use Rattle.frame_build.specs.declared.creator.Built.{Built}
 use Rattle.frame_opening.specs.FrameOpening.{test_refusal, opening_refusal}
 use Rattle.frame_opening.specs.declared.mic_tests.MicTest.{MicTest}
 use Rattle.frame_opening.specs.declared.mic_tests.MicTest.TheVariants.{Passes, Fails, Refused}
@@ -50,8 +50,8 @@ pub record Fills (refusal place : ℕ) (bytes l : List ℕ) (r : ℕ) (e : List 
 abbrev pub taken_answer : Taken → ℕ
 taken_answer t = numbered t.refusal.number t.length
 
--- what a call promises that fills, seals or builds a frame, or is refused by a number that is not 0: its answer r, and the
--- output e, of the output l as it was
-pub record BuildsInC (refusal : Refusal) (made l : List ℕ) (r : ℕ) (e : List ℕ) : Type 0 where
-  pub answer : r ≡ built_answer_of (built_of refusal (length made))
-  pub output : e ≡ out_of refusal.number made l
+-- what a call promises that builds a frame, or is refused by a number that is not 0: its answer r, and the output e, of
+-- the output l as it was
+pub record BuildsInC (refusal : ℕ) (frame l : List ℕ) (r : ℕ) (e : List ℕ) : Type 0 where
+  pub answer : r ≡ built_answer_of (built_of refusal (length frame))
+  pub output : e ≡ out_of refusal frame l

@@ -1,8 +1,5 @@
-// Buildings, and the two steps of a data frame's: filling, and sealing.
-ghost use Rattle.std.specs.Prelude.{eqb, length, take};
-ghost use Rattle.frame.specs.Refusals.{refused};
-ghost use Rattle.frame_security.specs.Sealing.{seal_refusal, sealed_frame};
-ghost use Rattle.frame_build.specs.DataBuilding.{clear_data};
+// Buildings.
+ghost use Rattle.std.specs.Prelude.{eqb, length};
 ghost use Rattle.frame_build.specs.JoinBuilding.{join_request_refusal, join_accept_refusal_of};
 ghost use Rattle.frame_build.specs.DataFrames.{data_frame_of};
 ghost use Rattle.frame_build.specs.JoinFrames.{join_request_of, join_accept_of};
@@ -22,7 +19,7 @@ pub extern "C" fn zinovoky_build_join_request(
     app_key: &[u8; 16],
     out: &mut [u8],
 ) -> u64
-    ensures { BuildsInC (refused (join_request_refusal (length out.old)))
+    ensures { BuildsInC (join_request_refusal (length out.old))
         (join_request_of app_key.now
         (request_parts_of app_eui.now dev_eui.now dev_nonce.now))
         out.old result out.new }
@@ -49,9 +46,8 @@ pub extern "C" fn zinovoky_build_join_accept(
     out: &mut [u8],
 ) -> u64
     ensures { BuildsInC
-        (refused
         (join_accept_refusal_of (accept_parts_of fixed.now (eqb with_list 1)) channels.now
-        (length out.old)))
+        (length out.old))
         (join_accept_of app_key.now (accept_parts_of fixed.now (eqb with_list 1)) channels.now)
         out.old result out.new }
 {
@@ -76,9 +72,8 @@ pub extern "C" fn zinovoky_build_data(
     out: &mut [u8],
 ) -> u64
     ensures { BuildsInC
-        (refused
         (data_refused kind (data_parts_of kind dev_addr.now fctrl counter port) commands.now
-        payload.now (length out.old)))
+        payload.now (length out.old))
         (data_frame_of nwk_skey.now app_skey.now
         (data_parts_of kind dev_addr.now fctrl counter port) commands.now payload.now)
         out.old result out.new }
@@ -96,53 +91,5 @@ pub extern "C" fn zinovoky_build_data(
     let built = frame_build::creator::data_frame::build_data(
         parts, commands, payload, nwk, app, out,
     );
-    built_answer(built)
-}
-
-#[unsafe(no_mangle)]
-pub extern "C" fn zinovoky_fill_data(
-    kind: u8,
-    dev_addr: &[u8; 4],
-    fctrl: u8,
-    counter: u32,
-    port: u16,
-    commands: &[u8],
-    payload: &[u8],
-    out: &mut [u8],
-) -> u64
-    ensures { BuildsInC
-        (refused
-        (data_refused kind (data_parts_of kind dev_addr.now fctrl counter port) commands.now
-        payload.now (length out.old)))
-        (clear_data (data_parts_of kind dev_addr.now fctrl counter port) commands.now payload.now)
-        out.old result out.new }
-{
-    if kind < 2 {
-        return numbered_bits(INVALID_DATA, 0);
-    }
-    if kind > 5 {
-        return numbered_bits(INVALID_MESSAGE_TYPE, 0);
-    }
-    let addr = *dev_addr;
-    let parts = data_parts(kind, addr, fctrl, counter, port);
-    let built = frame_build::creator::data_frame::fill_data(parts, commands, payload, out);
-    built_answer(built)
-}
-
-#[unsafe(no_mangle)]
-pub extern "C" fn zinovoky_seal_data(
-    out: &mut [u8],
-    length: usize,
-    counter: u32,
-    nwk_skey: &[u8; 16],
-    app_skey: &[u8; 16],
-) -> u64
-    ensures { BuildsInC (seal_refusal counter length out.old)
-        (sealed_frame nwk_skey.now app_skey.now counter (take length out.old))
-        out.old result out.new }
-{
-    let nwk = *nwk_skey;
-    let app = *app_skey;
-    let built = frame_security::sealing::seal_data(out, length, counter, nwk, app);
     built_answer(built)
 }

@@ -90,7 +90,7 @@ lent_covered f =
 -- ---- the payload, by the places and the counter of a reading
 
 module _ (f : List ℕ) (d : DataFrame) (q : d ≡ data_of f) where
-  fopts_place : d.fopts_end ≡ 1 + fhdr_length_of f
+  pub fopts_place : d.fopts_end ≡ 1 + fhdr_length_of f
   unfolding data_of
   fopts_place = ap (λ (r : DataFrame). r.fopts_end) q
 

@@ -1,5 +1,5 @@
 // The decryption of payloads (of the cryptographic half of parser.rs of the crate).
-ghost use Rattle.std.specs.Prelude.{◌≡◌};
+ghost use Rattle.std.specs.Prelude.{◌≡◌, ◌+◌, ◌≤◌, min};
 ghost use Rattle.frame.specs.Conditions.{IsData};
 ghost use Rattle.frame.specs.Reading.{data_of};
 ghost use Rattle.frame.specs.ReadingNumbers.{other_refusal_of};
@@ -8,7 +8,7 @@ ghost use Rattle.frame_opening.specs.FrameOpening.{result, decrypted, opened_und
 
 use frame::keys::MaybeKey;
 use frame::numbers::other_refusal;
-use frame::parser::{DataFrame, Reading, header_end, read};
+use frame::parser::{DataFrame, Reading, read};
 use frame::refusals::{INVALID_KEY, Refusal};
 use frame_security::securityhelpers::{by_network_key, encrypt_part, full_counter};
 
@@ -26,12 +26,25 @@ pub(crate) fn no_opening(reading: Reading) -> Opening
     Opening::Refused(other_refusal(reading))
 }
 
+// Where the payload begins, or the MIC where there is none.
+fn header_end(fields: DataFrame) -> usize
+    requires { fields.fopts_end ≤ 255 }
+    ensures* { λ r. ⌜ r ≡ min (fields.fopts_end + 1) fields.mic ⌝ }
+{
+    let start = fields.fopts_end + 1;
+    let mic = fields.mic;
+    if start < mic {
+        return start;
+    }
+    mic
+}
+
 // 4.3.3: the key of a frame that was read as data.
 fn key_of(frame: &[u8], fields: DataFrame, nwk_skey: MaybeKey, app_skey: MaybeKey) -> MaybeKey
     requires { IsData frame.now × (fields ≡ data_of frame.now) }
     ensures* { λ r. ⌜ r ≡ frame_key frame.now nwk_skey app_skey ⌝ }
 {
-    let start = header_end(fields.fopts_end, fields.mic);
+    let start = header_end(fields);
     if by_network_key(&frame[..start], fields.mic - start) {
         return nwk_skey;
     }
@@ -43,7 +56,7 @@ fn decrypt_payload(frame: &mut [u8], fields: DataFrame, key: [u8; 16], counter: 
     requires { IsData frame.old × (fields ≡ data_of frame.old) }
     ensures* { λ _. ⌜ frame.new ≡ decrypted key counter frame.old ⌝ }
 {
-    let start = header_end(fields.fopts_end, fields.mic);
+    let start = header_end(fields);
     let mic = fields.mic;
     if start == mic {
         return;

@@ -1,8 +1,5 @@
 pub mod AcceptBlocks
-pub mod BuiltLaws
 pub mod MicCompared
 pub mod MicLaws
-pub mod SealedFrames
-pub mod SealingBuffers
 pub mod SealingLaws
 pub mod SecurityLaws

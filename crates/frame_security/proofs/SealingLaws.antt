@@ -3,14 +3,15 @@
 -- Assumes nothing.
 use mathlib.Core.Path.{◌≡◌, sym, ap, ap₂, ◌∙◌}
 use mathlib.Core.List.{List, ◌++◌, append_assoc}
-use Prim.Native.Nat.{ℕ, ◌+◌, ◌-◌, ◌≤◌}
+use Prim.Native.Nat.{ℕ, ◌+◌, ◌-◌, ◌≤◌, ◌<◌}
 use native.Mathlib.Omega.{arith}
 use lib.ListN.{length, take, drop, length-append, length-drop}
 use lib.Seq.{sets, sets-eq, length-take-le, take-take, take_at, drop_at, drop-drop}
+use borrow.Author.Tests.{le-leb, lt-leb}
 use Rattle.base.specs.Bytes.{part}
 use Rattle.base.proofs.Lent.{part_long}
 use Rattle.frame_security.specs.Security.{payload_key_of, crypted, crypted_part, data_mic_of}
-use Rattle.frame_security.specs.Sealing.{enciphered, sealed}
+use Rattle.frame_security.specs.Sealing.{enciphered, sealed, sealed_in}
 use Rattle.frame_security.proofs.SecurityLaws.{crypted_long, crypted_same, data_mic_of_long}
 
 -- ---- lengths
@@ -97,3 +98,24 @@ module _ (nwk app : List ℕ) (counter start end : ℕ) (out key e m f : List �
       ∙ ap₂ (λ (s t : List ℕ). s ++ m ++ t) front rest
       ∙ ap (λ (t : List ℕ). enciphered nwk app counter hdr p ++ t ++ drop (end + 4) out)
       (hm ∙ ap (λ (t : List ℕ). data_mic_of nwk t counter) front)
+
+-- ---- of any places in a buffer
+
+module _ (nwk app : List ℕ) (counter start end : ℕ) (l : List ℕ) where
+  pub seal_no_header : start < 8 → l ≡ sealed_in nwk app counter start end l
+  unfolding sealed_in
+  seal_no_header h = simp (lt-leb 8 start h)
+
+  pub seal_unordered : 8 ≤ start → end < start → l ≡ sealed_in nwk app counter start end l
+  unfolding sealed_in
+  seal_unordered h k = simp (le-leb 8 start h, lt-leb start end k)
+
+  pub seal_no_room : 8 ≤ start → start ≤ end → length l < end + 4 → l ≡ sealed_in nwk app counter start end l
+  unfolding sealed_in
+  seal_no_room h k r = simp (le-leb 8 start h, le-leb start end k, lt-leb (end + 4) (length l) r)
+
+  pub seal_inside_lem : 8 ≤ start → start ≤ end → end + 4 ≤ length l
+      → sealed_in nwk app counter start end l
+      ≡ sealed nwk app counter (take start l) (part start (end - start) l) ++ drop (end + 4) l
+  unfolding sealed_in
+  seal_inside_lem h k r = simp (le-leb 8 start h, le-leb start end k, le-leb (end + 4) (length l) r)

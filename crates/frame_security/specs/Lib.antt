@@ -1,4 +1,3 @@
-pub mod Built
 pub mod JoinAcceptCipher
 pub mod Mic
 pub mod Sealing

@@ -7,7 +7,7 @@ use Rattle.base.specs.Mask.{masked}
 use Rattle.aes.specs.KeyExpansion.{key_expansion_of}
 use Rattle.aes.specs.Fips197.{cipher}
 use Rattle.frame_security.specs.Mic.{mic}
-use Rattle.frame.specs.Layout.{direction, fcnt, fport, header, payload}
+use Rattle.frame.specs.Layout.{direction, fport, header, payload}
 
 -- the first five bytes of a frame, MHDR and DevAddr, which hold all that a helper block takes of it; 0 where there is
 -- none
@@ -61,10 +61,6 @@ frame_key f nwk app = payload_key_of (header f) (length (payload f)) nwk app
 -- 4.3.1.5 a frame carries the low half of its 32-bit counter; the high half is the caller's
 unfoldable pub full_counter_of : ℕ → ℕ → ℕ
 full_counter_of counter fcnt = counter / 65536 * 65536 + fcnt
-
--- 4.3.1.5 whether a data frame is of a 32-bit counter: its FCnt is the counter's low half
-abbrev pub of_counter : ℕ → List ℕ → Bool
-of_counter counter f = eqb (counter % 65536) (fcnt f)
 
 -- 4.4, 6.2.4, 6.2.5 what the MIC of a frame covers: every byte ahead of it
 abbrev pub covered : List ℕ → List ℕ

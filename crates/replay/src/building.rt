@@ -5,11 +5,11 @@ use crate::input::{ROOM, after, copy, copy_numbers, eight_at, length_at, number_
 use crate::output::{put, put_all, put_length, put_refusal};
 use base::storing::{block_at, byte_at, four_at, three_at};
 use frame::parser::FPort;
+use frame_build::creator::Built;
 use frame_build::creator::data_frame::{DataParts, build_data};
 use frame_build::creator::join::{
     JoinAcceptParts, JoinRequestParts, build_join_accept, build_join_request,
 };
-use frame_security::sealing::Built;
 
 // A byte's worth of channels.
 const CHANNELS: usize = 256;

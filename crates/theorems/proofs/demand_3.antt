@@ -1,3 +1,2 @@
-pub mod Afresh
 pub mod Kept
 pub mod WholeList

@@ -1,10 +1,8 @@
 pub mod Built
 pub mod CommandsBack
+pub mod DataOpens
 pub mod DataParts
-pub mod FrameOpens
-pub mod InTurn
 pub mod JoinOpens
 pub mod JoinParts
 pub mod Opened
 pub mod OpenedParts
-pub mod SealedBack

@@ -5,7 +5,7 @@
 use Rattle.std.specs.Prelude.{◌≡◌, Bool, List, ℕ, ℤ, length}
 use Rattle.frame.specs.Reading.{read_of}
 use Rattle.frame.specs.ReadingNumbers.{number_of, place_of, values_of_of}
-use Rattle.frame.specs.Refusals.{refusal, refused}
+use Rattle.frame.specs.Refusals.{refusal}
 use Rattle.frame.specs.JoinFields.{join_request_fields_of, join_accept_fields_of}
 use Rattle.frame.specs.declared.refusals.Refusal.{Refusal}
 use Rattle.frame.specs.declared.keys.MaybeKey.{MaybeKey}
@@ -14,8 +14,7 @@ use Rattle.frame_opening.specs.FrameOpening.{test_refusal, join_request_test, jo
 use Rattle.frame_opening.specs.CheckedOpening.{data_opened_checked, accept_opened_checked}
 use Rattle.frame_opening.specs.JoinAcceptOpening.{accept_opened}
 use Rattle.frame_opening.specs.SessionKeys.{session_keys_of}
-use Rattle.frame_build.specs.DataFrames.{data_frame_of}
-use Rattle.frame_security.specs.Built.{built_of, built_refusal}
+use Rattle.frame_build.specs.DataFrames.{built_of, built_refusal, data_frame_of}
 use Rattle.frame_build.specs.DataBuilding.{data_refusal_of}
 use Rattle.frame_build.specs.JoinBuilding.{join_request_refusal, join_accept_refusal_of}
 use Rattle.frame_build.specs.JoinFrames.{join_request_of, join_accept_of}
@@ -111,12 +110,12 @@ others_refusal (amend s offset value) = (amend_of s offset value).refusal
 others_refusal (amend_list_lem s list) = (amend_list_of s list).refusal
 others_refusal (take_out s room) = (taken_of s room).refusal
 others_refusal (build_data_lem nwk app d commands body room) =
-    built_refusal (built_of (refused (data_refusal_of d commands body room)) (length (data_frame_of nwk app d commands body)))
+    built_refusal (built_of (data_refusal_of d commands body room) (length (data_frame_of nwk app d commands body)))
 others_refusal (build_kind kind nwk app d commands body room) =
-    built_refusal (built_of (refused (data_refused kind d commands body room)) (length (data_frame_of nwk app d commands body)))
-others_refusal (build_request key j room) = built_refusal (built_of (refused (join_request_refusal room)) (length (join_request_of key j)))
+    built_refusal (built_of (data_refused kind d commands body room) (length (data_frame_of nwk app d commands body)))
+others_refusal (build_request key j room) = built_refusal (built_of (join_request_refusal room) (length (join_request_of key j)))
 others_refusal (build_accept key j channels room) =
-    built_refusal (built_of (refused (join_accept_refusal_of j channels room)) (length (join_accept_of key j channels)))
+    built_refusal (built_of (join_accept_refusal_of j channels room) (length (join_accept_of key j channels)))
 others_refusal (write_command_lem c room place) = written_refusal (command_written c room place)
 others_refusal (write_fields_lem up id values room place) = written_refusal (fields_written up id values room place)
 others_refusal (write_numbers_lem up numbers room place) = written_refusal (numbers_written up numbers room place)

@@ -1,4 +1,4 @@
--- What it means that a frame reads back which was built or sealed (docs/RULES.md, Building): what the other calls answer of it, said by what
+-- What it means that a frame reads back which was built (docs/RULES.md, Building): what the other calls answer of it, said by what
 -- went in. FCtrl is compared by its high nibble, the counter by its low half, RxDelay modulo 16, a list of channels filled up
 -- with zeros to five.
 -- Assumes nothing.
@@ -13,13 +13,12 @@ use Rattle.frame.specs.declared.join_fields.CfList.TheVariants.{Absent as NoList
 use Rattle.frame.specs.declared.join_fields.JoinAcceptFields.{JoinAcceptFields}
 use Rattle.frame.specs.declared.join_fields.JoinRequestFields.{JoinRequestFields}
 use Rattle.frame.specs.declared.parser.Reading.TheVariants.{JoinRequest, JoinAccept, Data}
-use Rattle.frame_security.specs.Sealing.{clear_of, appended}
-use Rattle.frame_security.specs.Security.{data_mic_of, join_mic}
+use Rattle.frame_security.specs.Security.{crypted, frame_key, data_mic_of, join_mic}
 use Rattle.frame_opening.specs.CheckedOpening.{data_opened_checked, accept_opened_checked}
 use Rattle.frame_opening.specs.FrameOpening.{result, given_key, data_test_of, data_opened, join_request_test, join_accept_test}
 use Rattle.frame_opening.specs.declared.mic_tests.MicTest.TheVariants.{Passes}
 use Rattle.frame_opening.specs.declared.payload.Opening.TheVariants.{Opened}
-use Rattle.frame_build.specs.DataBuilding.{fopts_of, body_of, data_header, clear_data}
+use Rattle.frame_build.specs.DataBuilding.{fopts_of, body_of, data_header}
 use Rattle.frame_build.specs.JoinBuilding.{join_accept_body, join_accept_length, join_request_body}
 use Rattle.frame_build.specs.JoinFrames.{signed}
 use Rattle.frame_build.specs.declared.creator.data_frame.DataParts.{DataParts}
@@ -52,30 +51,21 @@ pub record DataBack (nwk app : List ℕ) (d : DataParts) (commands body f : List
   pub held : payload_of f ≡ held_by_of d.port (payload_start_of f) (payload_end_of f)
   -- header, clear payload or commands, MIC
   pub header_back : header f ≡ data_header d commands
-  pub payload_back : clear_of f nwk app d.fcnt ≡ body_of d.port commands body
+  pub payload_back : crypted (frame_key f nwk app) (header f) d.fcnt (payload f) ≡ body_of d.port commands body
   pub mic_back : mic_of_of f ≡ data_mic_of nwk (take (length f - 4) f) d.fcnt
 
--- of a frame f that is the clear frame c, sealed with this counter: its MIC passes, it opens to c, plain and checked, with its MIC
--- behind, and it opens for amendments
-pub record FrameOpens (nwk app : List ℕ) (counter : ℕ) (c f : List ℕ) : Type 0 where
-  pub passes : data_test_of nwk counter f ≡ Passes
-  pub opens : data_opened (given_key nwk) (given_key app) counter f ≡ result Opened (c ++ mic_of_of f)
-  pub opens_checked : data_opened_checked nwk (given_key app) counter f ≡ result Opened (c ++ mic_of_of f)
-  pub opens_to_amend : open_of f nwk app counter ≡ accepted_opening (opened_of f nwk app counter)
+-- its MIC passes, it opens to the clear payload or commands, plain and checked, and it opens for amendments
+pub record DataOpens (nwk app : List ℕ) (d : DataParts) (commands body f : List ℕ) : Type 0 where
+  pub passes : data_test_of nwk d.fcnt f ≡ Passes
+  pub opens : data_opened (given_key nwk) (given_key app) d.fcnt f
+      ≡ result Opened (data_header d commands ++ (body_of d.port commands body ++ mic_of_of f))
+  pub opens_checked : data_opened_checked nwk (given_key app) d.fcnt f
+      ≡ result Opened (data_header d commands ++ (body_of d.port commands body ++ mic_of_of f))
+  pub opens_to_amend : open_of f nwk app d.fcnt ≡ accepted_opening (opened_of f nwk app d.fcnt)
 
 pub record DataReadsBack (nwk app : List ℕ) (d : DataParts) (commands body f : List ℕ) : Type 0 where
   pub back : DataBack nwk app d commands body f
-  pub opens : FrameOpens nwk app d.fcnt (clear_data d commands body) f
-
--- ---- a data frame f that was sealed, of any clear frame c
-
-pub record SealedReadsBack (nwk app : List ℕ) (counter : ℕ) (c f : List ℕ) : Type 0 where
-  -- it is read as c is, with four bytes more
-  pub reads : read_of f ≡ read_of (appended c)
-  -- header, and payload in the clear
-  pub header_back : header f ≡ header (appended c)
-  pub payload_back : clear_of f nwk app counter ≡ payload (appended c)
-  pub opens : FrameOpens nwk app counter c f
+  pub opens : DataOpens nwk app d commands body f
 
 -- ---- a join-request f: it is read as one, its MIC passes, and the field call gives what went in
 

@@ -4,13 +4,11 @@ use Rattle.std.specs.Prelude.{◌≡◌, List, [], ◌∷◌, ℕ, ◌+◌, leng
 use Rattle.frame.specs.Layout.{payload_start_of, mic_of_of}
 use Rattle.frame.specs.ReadingNumbers.{number_of, values_of_of}
 use Rattle.frame.specs.Reading.{read_of}
-use Rattle.frame.specs.Refusals.{refused}
 use Rattle.frame.specs.declared.parser.Reading.{Reading}
 use Rattle.frame_build.specs.DataBuilding.{data_refusal_of}
-use Rattle.frame_build.specs.DataFrames.{data_frame_of}
-use Rattle.frame_security.specs.Built.{built_of}
-use Rattle.frame_security.specs.declared.sealing.Built.{Built}
-use Rattle.frame_security.specs.declared.sealing.Built.TheVariants.{Frame}
+use Rattle.frame_build.specs.DataFrames.{built_of, data_frame_of}
+use Rattle.frame_build.specs.declared.creator.Built.{Built}
+use Rattle.frame_build.specs.declared.creator.Built.TheVariants.{Frame}
 use Rattle.frame_build.specs.declared.creator.data_frame.DataParts.{DataParts}
 use Rattle.amend.specs.Amending.{open_state, encrypted_byte, amend_of}
 use Rattle.amend.specs.AmendmentLists.{Amendment, Stands}
@@ -39,7 +37,7 @@ abbrev pub BuildsData : Builder → Type 0
 BuildsData build =
     (nwk app : List ℕ) (d : DataParts) (commands payload : List ℕ) (room : ℕ)
     → build nwk app d commands payload room
-    ≡ built_of (refused (data_refusal_of d commands payload room)) (length (data_frame_of nwk app d commands payload))
+    ≡ built_of (data_refusal_of d commands payload room) (length (data_frame_of nwk app d commands payload))
 
 -- one that reports the length n, whatever it builds
 abbrev pub Reports : ℕ → Builder → Type 0

@@ -2,20 +2,19 @@
 // commands, payload and output are lent. Nothing is remembered between calls.
 ghost use Rattle.std.specs.Prelude.{◌≡◌, ◌++◌, ◌+◌, ◌/◌, ◌%◌, ◌≤◌, ◌<◌, leb, length};
 ghost use Rattle.base.specs.Storing.{Put};
-ghost use Rattle.frame_build.specs.DataBuilding.{clear_data, data_refusal_of, fixed_header_of, mhdr_of};
-ghost use Rattle.frame_build.specs.DataFrames.{data_frame_of};
+ghost use Rattle.frame_build.specs.DataBuilding.{body_of, clear_data, data_refusal_of, fixed_header_of, mhdr_of};
+ghost use Rattle.frame_build.specs.DataFrames.{Builds, data_frame_of};
 ghost use Rattle.frame_build.specs.DataRefusalCases.{absent_refusal, port_refusal};
 ghost use Rattle.frame_build.specs.GivenParts.{DataGiven};
-ghost use Rattle.frame.specs.Refusals.{refused};
-ghost use Rattle.frame_security.specs.Built.{Builds};
 
-use frame::packet_length::{FOPTS_MAX_LEN, PHY_PAYLOAD_MAX_LEN};
+use crate::creator::Built;
+use frame::packet_length::{FOPTS_MAX_LEN, MIC_LEN, PHY_PAYLOAD_MAX_LEN};
 use frame::parser::FPort;
 use frame::refusals::{
     BUFFER_TOO_SHORT, DATA_AND_MAC_COMMANDS_IN_PAYLOAD_NOT_ALLOWED, FOPTS_LEN_SET, FRAME_TOO_LONG,
     FRM_PAYLOAD_WITH_FPORT_ZERO, MAC_COMMAND_TOO_BIG_FOR_FOPTS, Refusal,
 };
-use frame_security::sealing::{Built, seal_data};
+use frame_security::sealing::seal;
 
 // A data frame (4.3): its kind, the address in frame order, FCtrl with a low nibble of 0, the whole counter and the port.
 #[derive(Drop)]
@@ -152,11 +151,33 @@ fn fill(d: DataParts, commands: &[u8], payload: &[u8], out: &mut [u8]) -> usize
     }
 }
 
-// Fills a data frame in (4.3), clear and without its MIC, at the start of out, and answers the length of that. Commands go into
-// FOpts, on port 0 into the payload. No key is needed; sealing makes the frame of what was filled.
-pub fn fill_data(d: DataParts, commands: &[u8], payload: &[u8], out: &mut [u8]) -> Built
-    ensures builds { Builds (refused (data_refusal_of d commands.now payload.now (length out.old)))
-        (clear_data d commands.now payload.now) out.old result out.new }
+// The length of a data frame's payload.
+fn body_length(port: FPort, commands: &[u8], payload: &[u8]) -> usize
+    ensures { result ≡ length (body_of port commands.now payload.now) }
+{
+    match port {
+        FPort::Absent => payload.len(),
+        FPort::Port(p) => {
+            if p == 0 {
+                return commands.len();
+            }
+            payload.len()
+        }
+    }
+}
+
+// Builds a data frame (4.3) at the start of out. Commands go into FOpts, on port 0 into the payload.
+pub fn build_data(
+    d: DataParts,
+    commands: &[u8],
+    payload: &[u8],
+    nwk_skey: [u8; 16],
+    app_skey: [u8; 16],
+    out: &mut [u8],
+) -> Built
+    ensures builds { Builds (data_refusal_of d commands.now payload.now (length out.old))
+        (data_frame_of nwk_skey app_skey d commands.now payload.now) out.old result
+        out.new }
     ensures data_given { DataGiven d }
 {
     let refusal = data_refusal(d, commands, payload, out.len());
@@ -167,27 +188,9 @@ pub fn fill_data(d: DataParts, commands: &[u8], payload: &[u8], out: &mut [u8]) 
         });
     }
     let end = fill(d, commands, payload, out);
-    Built::Frame(end)
-}
-
-// Builds a data frame (4.3) at the start of out: it is filled in, and sealed where it lies.
-pub fn build_data(
-    d: DataParts,
-    commands: &[u8],
-    payload: &[u8],
-    nwk_skey: [u8; 16],
-    app_skey: [u8; 16],
-    out: &mut [u8],
-) -> Built
-    ensures builds { Builds (refused (data_refusal_of d commands.now payload.now (length out.old)))
-        (data_frame_of nwk_skey app_skey d commands.now payload.now) out.old result
-        out.new }
-    ensures data_given { DataGiven d }
-{
-    let filled = fill_data(d, commands, payload, out);
-    let Built::Frame(length) = filled else {
-        return filled;
-    };
+    let port = d.port;
+    let start = end - body_length(port, commands, payload);
     let counter = d.fcnt;
-    seal_data(out, length, counter, nwk_skey, app_skey)
+    seal(out, start, end, counter, nwk_skey, app_skey);
+    Built::Frame(end + MIC_LEN)
 }

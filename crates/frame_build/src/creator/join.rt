@@ -3,17 +3,16 @@
 ghost use Rattle.std.specs.Prelude.{◌≡◌, ◌+◌, ◌/◌, ◌%◌, ◌≤◌, ◌<◌, length, take};
 ghost use Rattle.base.specs.Storing.{Put};
 ghost use Rattle.frame_build.specs.JoinBuilding.{accept_head_of, cf_list_bytes_of, frequency_bytes, join_accept_body, join_accept_length, join_accept_refusal_of, join_request_body, join_request_refusal, list_byte_of, too_high_of};
+ghost use Rattle.frame_build.specs.DataFrames.{Builds};
 ghost use Rattle.frame_build.specs.GivenParts.{AcceptGiven, RequestGiven};
 ghost use Rattle.frame_build.specs.JoinFrames.{join_accept_of, join_request_of};
-ghost use Rattle.frame.specs.Refusals.{refused};
-ghost use Rattle.frame_security.specs.Built.{Builds};
 ghost use Rattle.frame_security.specs.Security.{join_mic};
 ghost use Rattle.base.specs.Bytes.{at};
 
+use crate::creator::Built;
 use frame::packet_length::{JOIN_ACCEPT_LEN, JOIN_ACCEPT_WITH_CFLIST_LEN, JOIN_REQUEST_LEN};
 use frame::refusals::{BUFFER_TOO_SHORT, INVALID_CHANNEL_LIST, Refusal};
 use frame_security::ecb::each_block;
-use frame_security::sealing::Built;
 use frame_security::securityhelpers::calculate_mic;
 
 // A join-request (6.2.4), each field in frame order.
@@ -170,7 +169,7 @@ fn fill_request(j: JoinRequestParts, out: &mut [u8]) -> usize
 
 // Builds a join-request (6.2.4) at the start of out.
 pub fn build_join_request(j: JoinRequestParts, app_key: [u8; 16], out: &mut [u8]) -> Built
-    ensures builds { Builds (refused (join_request_refusal (length out.old))) (join_request_of app_key j) out.old result
+    ensures builds { Builds (join_request_refusal (length out.old)) (join_request_of app_key j) out.old result
         out.new }
     ensures request_given { RequestGiven j }
 {
@@ -206,7 +205,7 @@ pub fn build_join_accept(
     app_key: [u8; 16],
     out: &mut [u8],
 ) -> Built
-    ensures builds { Builds (refused (join_accept_refusal_of j channels.now (length out.old)))
+    ensures builds { Builds (join_accept_refusal_of j channels.now (length out.old))
         (join_accept_of app_key j channels.now) out.old result out.new }
     ensures accept_given { AcceptGiven app_key j }
 {

@@ -7,9 +7,9 @@ use crate::conversions::answers::refusal_answer;
 use frame::packed::numbered_bits;
 use frame::parser::FPort;
 use frame_bits::fctrl::{is_confirmed, is_uplink};
+use frame_build::creator::Built;
 use frame_build::creator::data_frame::DataParts;
 use frame_build::creator::join::JoinAcceptParts;
-use frame_security::sealing::Built;
 
 pub(crate) fn built_answer(built: Built) -> u64
     ensures { result ≡ built_answer_of built }

@@ -18,11 +18,10 @@ use Rattle.frame.proofs.LayoutLaws.{placed, length-payload}
 use Rattle.frame_security.proofs.SecurityLaws.{crypted-at, crypted_long, crypted_twice}
 use Rattle.amend.specs.declared.amending.Open.{Open}
 use Rattle.amend.specs.OpenFrame.{opened_of, open_of}
-use Rattle.frame_security.specs.Sealing.{clear_of}
-use Rattle.amend.specs.AmendmentLists.{Amendment, amended_by, payload_by}
+use Rattle.amend.specs.AmendmentLists.{Amendment, amended_by, payload_by, clear_of}
 use Rattle.amend.proofs.Accepted.{Accepted, opens_accepted}
 use Rattle.amend.proofs.OneByte.{held_at}
-use Rattle.frame_security.proofs.SealedFrames.{clear_long, sealed_long, sealed-at, sealed-payload, sealed_end}
+use Rattle.amend.proofs.Sealed.{clear_long, sealed_long, sealed-at, sealed-payload, sealed_end}
 use Rattle.amend.proofs.Demand3.{one_long, one_inside, one_outside, after, after_accepted, payload_same, state_after}
 
 -- no amendment of the list that is accepted, with n bytes of payload, names byte j of it

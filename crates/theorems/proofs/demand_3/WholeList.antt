@@ -11,14 +11,14 @@ use borrow.Author.Tests.{eq-eqb, ne_eqb}
 use Rattle.base.specs.Bytes.{pick}
 use Rattle.base.proofs.Cases.{by_equal}
 use Rattle.frame.specs.Layout.{header}
-use Rattle.frame_security.specs.Sealing.{sealed, clear_of}
+use Rattle.frame_security.specs.Sealing.{sealed}
 use Rattle.amend.specs.declared.amending.Open.{Open}
 use Rattle.amend.specs.declared.opening.Opened.{Opened}
 use Rattle.amend.specs.declared.amending.Amended.{Amended}
 use Rattle.frame.specs.declared.refusals.Refusal.{Refusal}
 use Rattle.amend.specs.Amending.{amend_of}
 use Rattle.amend.specs.OpenFrame.{open_of}
-use Rattle.amend.specs.AmendmentLists.{amended_by, payload_by, decoded_all, amend_all_of, amend_frame_of, amended_frame}
+use Rattle.amend.specs.AmendmentLists.{amended_by, payload_by, clear_of, decoded_all, amend_all_of, amend_frame_of, amended_frame}
 use Rattle.amend.proofs.Accepted.{opens_accepted}
 use Rattle.amend.proofs.Demand3.{demand_3_lem}
 use Rattle.theorems.proofs.demand_3.Kept.{Keeps, sealed_keeps}

@@ -8,12 +8,11 @@ use Prim.Native.Nat.{ℕ, ◌+◌, ◌*◌}
 use lib.ListN.{length}
 use Rattle.base.specs.Bytes.{tab}
 use Rattle.frame_build.specs.DataBuilding.{data_header, data_length, data_refusal_of, fixed_header_of}
-use Rattle.frame_build.specs.DataFrames.{data_frame_of}
-use Rattle.frame_security.specs.Built.{built_of}
+use Rattle.frame_build.specs.DataFrames.{built_of, data_frame_of}
 use Rattle.frame_security.specs.Security.{full_counter_of}
-use Rattle.frame_security.specs.declared.sealing.Built.{Built}
+use Rattle.frame_build.specs.declared.creator.Built.{Built}
 use Rattle.frame.specs.Refusals.{refusal, refused}
-use Rattle.frame_security.specs.declared.sealing.Built.TheVariants.{Frame, Refused as NotBuilt}
+use Rattle.frame_build.specs.declared.creator.Built.TheVariants.{Frame, Refused as NotBuilt}
 use Rattle.frame_build.specs.declared.creator.data_frame.DataParts.{DataParts}
 use Rattle.frame_build.proofs.DataBuiltLaws.{frame_long}
 use Rattle.frame.specs.Reading.{port_of_of, payload_of, data_of, read_join_request_of, read_join_accept_of, read_data_of, read_type_of, read_of}
@@ -47,7 +46,7 @@ on_port_one o =
 -- the answer of building into 255 bytes
 abbrev pub answer_of : Open → List ℕ → List ℕ → Built
 answer_of o commands payload =
-    built_of (refused (data_refusal_of (on_port_one o) commands payload 255))
+    built_of (data_refusal_of (on_port_one o) commands payload 255)
     (length (data_frame_of o.nwk o.app (on_port_one o) commands payload))
 
 -- reads: a frame, and the answer to it, whatever the bytes are that the example leaves open
@@ -137,9 +136,9 @@ rows =
 -- a built frame is as long as its parts say
 long : (o : Open) (commands payload : List ℕ)
     → answer_of o commands payload
-    ≡ built_of (refused (data_refusal_of (on_port_one o) commands payload 255)) (data_length (on_port_one o) commands payload)
+    ≡ built_of (data_refusal_of (on_port_one o) commands payload 255) (data_length (on_port_one o) commands payload)
 long o commands payload =
-    ap (built_of (refused (data_refusal_of (on_port_one o) commands payload 255)))
+    ap (built_of (data_refusal_of (on_port_one o) commands payload 255))
     (frame_long o.nwk o.app (on_port_one o) commands payload)
 
 pub table : All rows

@@ -2,22 +2,51 @@
 -- is a frame of n bytes, the first n bytes of the output are read, tested, opened and taken apart as what went in. That the
 -- building was accepted is the one premise; what the types of the arguments give is part of the contract.
 -- Assumes nothing.
-use mathlib.Core.Path.{◌≡◌, sym, ap₂, subst}
+use mathlib.Core.Path.{◌≡◌, sym, ap, ◌∙◌, subst}
+use mathlib.Core.Bool.{Bool, true, false}
 use mathlib.Core.List.{List, ◌++◌}
 use Prim.Native.Nat.{ℕ}
-use lib.ListN.{take}
-use Rattle.frame.proofs.ReadingLaws.{data_read}
-use Rattle.frame_security.specs.declared.sealing.Built.TheVariants.{Frame}
-use Rattle.frame_security.proofs.BuiltLaws.{built_frame}
-use Rattle.frame_build.specs.DataBuilding.{clear_data}
+use native.Mathlib.Omega.{arith}
+use lib.Dec.{eqb}
+use lib.ListN.{length, take, drop}
+use lib.Seq.{take_at}
+use borrow.Author.Tests.{eqb-true}
+use Rattle.base.specs.Bytes.{pick}
+use Rattle.base.proofs.Cases.{by_bool}
+use Rattle.frame.specs.Refusals.{refused}
+use Rattle.frame_build.specs.DataFrames.{Builds, built_value}
+use Rattle.frame_build.specs.declared.creator.Built.{Built}
+use Rattle.frame_build.specs.declared.creator.Built.TheVariants.{Frame, Refused}
 use Rattle.frame_build.proofs.creator.data_frame.build_data.Reads as build_data_lem
 use Rattle.frame_build.proofs.creator.join.build_join_request.Reads as build-join-request
 use Rattle.frame_build.proofs.creator.join.build_join_accept.Reads as build-join-accept
 use Rattle.theorems.specs.ReadBack.{Always, DataReadsBack, RequestReadsBack, AcceptReadsBack}
 use Rattle.theorems.proofs.read_back.DataParts.{data_back}
-use Rattle.theorems.proofs.read_back.FrameOpens.{frame_opens}
+use Rattle.theorems.proofs.read_back.DataOpens.{data_opens}
 use Rattle.theorems.proofs.read_back.JoinParts.{join_request_back, join_accept_back}
 use Rattle.theorems.proofs.read_back.JoinOpens.{request_opens, accept_opens}
+
+-- ---- an accepted building
+
+-- nothing was refused, and the frame stands at the start of the output
+pub built_frame : (refusal : ℕ) (frame l e : List ℕ) (r : Built) → Builds refusal frame l r e → (n : ℕ) → r ≡ Frame n
+    → (refusal ≡ 0) × (take n e ≡ frame)
+built_frame refusal frame l e r b n q = by_bool (eqb refusal 0) taken not_taken
+  where
+    taken : eqb refusal 0 ≡ true → (refusal ≡ 0) × (take n e ≡ frame)
+    taken t =
+        let same : Frame n ≡ Frame (length frame) =
+        sym q ∙ b.answer ∙ ap (λ (u : Bool). pick u (Frame (length frame)) (Refused (refused refusal))) t in
+        let out : e ≡ frame ++ drop (length frame) l =
+        b.output ∙ ap (λ (u : Bool). pick u (frame ++ drop (length frame) l) l) t in
+        (eqb-true refusal 0 t, ap (take n) out ∙ take_at frame (drop (length frame) l) n (sym (ap built_value same)))
+
+    not_taken : eqb refusal 0 ≡ false → (refusal ≡ 0) × (take n e ≡ frame)
+    not_taken t =
+        let other : Frame n ≡ Refused (refused refusal) =
+        sym q ∙ b.answer ∙ ap (λ (u : Bool). pick u (Frame (length frame)) (Refused (refused refusal))) t in
+        let z : ◌≡◌ {A = ℕ} 0 1 = cc in
+        absurd (omega arith)
 
 -- ---- data frames: parts, commands, payload, network key, application key, output
 
@@ -32,24 +61,18 @@ data_reads_back κs a r s p n q =
     let body = a.1.1.0.now in
     let nwk = a.1.1.1.0 in
     let app = a.1.1.1.1.0 in
-    let m = built_frame _ _ _ _ r p.0 n q in
-    let back = data_back nwk app d p.1 commands body _ m.none in
-    subst (λ (f : List ℕ). DataReadsBack nwk app d commands body f) (sym m.first)
-    (record {
-      back = back;
-      opens =
-          frame_opens nwk app d.fcnt (clear_data d commands body) _
-          (record { data_frame_lem = data_read _ back.reads; low_half = sym back.count; signed = sym back.mic_back })
-          (ap₂ (λ (h t : List ℕ). h ++ t) back.header_back back.payload_back);
-    })
+    let b = built_frame _ _ _ _ r p.0 n q in
+    let back = data_back nwk app d p.1 commands body _ b.0 in
+    subst (λ (f : List ℕ). DataReadsBack nwk app d commands body f) (sym b.1)
+    (record { back = back; opens = data_opens nwk app d commands body _ back })
 
 -- ---- join-requests: parts, AppKey, output
 
 pub join_request_reads_back : Always build-join-request.Learnt
     (λ κs a r s. (n : ℕ) → r ≡ Frame n → RequestReadsBack a.1.0 a.0 (take n s.1.1.0.now))
 join_request_reads_back κs a r s p n q =
-    let m = built_frame _ _ _ _ r p.0 n q in
-    subst (λ (f : List ℕ). RequestReadsBack a.1.0 a.0 f) (sym m.first)
+    let b = built_frame _ _ _ _ r p.0 n q in
+    subst (λ (f : List ℕ). RequestReadsBack a.1.0 a.0 f) (sym b.1)
     (request_opens a.1.0 a.0 _ (join_request_back a.1.0 a.0 p.1))
 
 -- ---- join-accepts: parts, channels, AppKey, output
@@ -60,6 +83,6 @@ pub join_accept_reads_back : Always build-join-accept.Learnt
 join_accept_reads_back κs a r s p n q =
     let key = a.1.1.0 in
     let channels = a.1.0.now in
-    let m = built_frame _ _ _ _ r p.0 n q in
-    subst (λ (f : List ℕ). AcceptReadsBack key a.0 channels f) (sym m.first)
-    (accept_opens key a.0 channels _ (join_accept_back key a.0 p.1 channels _ m.none))
+    let b = built_frame _ _ _ _ r p.0 n q in
+    subst (λ (f : List ℕ). AcceptReadsBack key a.0 channels f) (sym b.1)
+    (accept_opens key a.0 channels _ (join_accept_back key a.0 p.1 channels _ b.0))

@@ -28,7 +28,7 @@ use Rattle.frame_security.specs.Security.{frame_key}
 use Rattle.frame_security.proofs.SecurityLaws.{crypted_long}
 use Rattle.frame_opening.specs.FrameOpening.{Result, decrypted}
 use Rattle.frame_build.specs.DataBuilding.{fopts_of, body_of, data_header}
-use Rattle.frame_security.specs.declared.sealing.Built.TheVariants.{Frame}
+use Rattle.frame_build.specs.declared.creator.Built.TheVariants.{Frame}
 use Rattle.frame_build.specs.declared.creator.data_frame.DataParts.{DataParts}
 use Rattle.frame_build.proofs.creator.data_frame.build_data.Reads as build_data_lem
 use Rattle.mac_commands.specs.InFrame.{on_port0, commands_from, commands_to, lists_of, in_frame_of, fopts_commands, payload_commands}
@@ -143,9 +143,7 @@ module _ (nwk app : List ℕ) (d : DataParts) (cs : List Command) (body f : List
 
   g_parts : g ≡ data_header d (bytes_all cs) ++ (body_of d.port (bytes_all cs) body ++ mic_of_of f)
   unfolding g
-  g_parts =
-      ap (λ (r : Result). r.bytes) b.opens.opens
-      ∙ append_assoc (data_header d (bytes_all cs)) (body_of d.port (bytes_all cs) body) (mic_of_of f)
+  g_parts = ap (λ (r : Result). r.bytes) b.opens.opens
 
   -- both have the same lists
   abbrev its : CommandLists

@@ -15,9 +15,7 @@ use Rattle.frame.specs.Layout.{fcnt, payload, mic_of_of}
 use Rattle.frame.specs.Refusals.{refused, not_refused}
 use Rattle.frame.specs.declared.refusals.Refusal.{Refusal}
 use Rattle.frame_security.specs.Mic.{same_bytes}
-use Rattle.frame_security.specs.Sealing.{resealed}
 use Rattle.frame_security.specs.Security.{covered, data_mic_of}
-use Rattle.frame_security.proofs.SealedFrames.{resealed_same}
 use Rattle.frame_security.proofs.MicCompared.{same_of_test, test_of_same}
 use Rattle.amend.specs.Amending.{payload_length_of, amended_to, amend_of}
 use Rattle.amend.specs.AmendmentLists.{amended_by, decoded_all, amend_all_of, amend_frame_of}
@@ -40,16 +38,9 @@ use Rattle.theorems.proofs.refusals.SomeIndex.{if_some}
 
 -- ---- what the tests tell
 
--- sealing gives the frame again exactly where its MIC is right
-if_right : (f nwk app : List ℕ) (counter : ℕ)
-    → Exactly (same_bytes (resealed f nwk app counter) f ≡ true) (mic_of_of f ≡ data_mic_of nwk (covered f) counter)
-if_right f nwk app counter =
-    let right = data_mic_of nwk (covered f) counter in
-    let same = resealed_same f nwk app counter in
-    record {
-      there = λ e. sym (same_of_test right (mic_of_of f) (sym same ∙ e));
-      back = λ e. same ∙ test_of_same right (mic_of_of f) (sym e);
-    }
+-- the MIC is compared
+if_right : (s t : List ℕ) → Exactly (same_bytes t s ≡ true) (s ≡ t)
+if_right s t = record { there = λ e. sym (same_of_test t s e); back = λ e. test_of_same t s (sym e) }
 
 -- a list whose offsets do not all lie inside has one at some index that does not
 either_outside : (a b : Bool) → not (pick a b false) ≡ pick (not a) true (not b)
@@ -82,7 +73,7 @@ module _ (f nwk app : List ℕ) (counter : ℕ) (h : Opened → Refusal)
   unfolding open_data open_checked_of
   opened_gives {cs} new-14 new-5 g =
       let low = eqb (counter % 65536) (fcnt f) in
-      let right = same_bytes (resealed f nwk app counter) f in
+      let right = same_bytes (data_mic_of nwk (covered f) counter) (mic_of_of f) in
       let opened = accepted_opening (opened_of f nwk app counter) in
       let path : h (open_data f nwk app counter) ≡ pick low (pick right (h opened) (refused 5)) (refused 14) =
       through h low (pick right opened (refused_opening (refused 5))) (refused_opening (refused 14))
@@ -90,7 +81,7 @@ module _ (f nwk app : List ℕ) (counter : ℕ) (h : Opened → Refusal)
       ∙ ap₂ (λ (r s : Refusal). pick low (pick right (h opened) r) s) (keeps 4) (keeps 13) in
       subst (λ (r : Refusal). Gives refused (open_then nwk counter f cs) r) (sym path)
       (past new-14 low (if_unless low (if_equal (counter % 65536) (fcnt f)))
-      (past new-5 right (if_unless right (if_right f nwk app counter)) g))
+      (past new-5 right (if_unless right (if_right (mic_of_of f) (data_mic_of nwk (covered f) counter))) g))
 
 module _ (f nwk app : List ℕ) (counter : ℕ) where
   -- reading, 14, 5

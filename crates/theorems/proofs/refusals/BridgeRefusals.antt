@@ -15,8 +15,7 @@ use Rattle.frame.specs.PackedReading.{numbered}
 use Rattle.frame.specs.Reading.{read_of}
 use Rattle.frame.specs.Refusals.{refusal, refused, not_refused}
 use Rattle.frame.specs.declared.refusals.Refusal.{Refusal}
-use Rattle.frame_build.specs.DataFrames.{data_frame_of}
-use Rattle.frame_security.specs.Built.{built_of}
+use Rattle.frame_build.specs.DataFrames.{data_frame_of, built_of}
 use Rattle.frame_build.specs.declared.creator.data_frame.DataParts.{DataParts}
 use Rattle.frame_opening.specs.SessionKeys.{session_keys_of}
 use Rattle.frame_c.specs.CAnswers.{or_short_of}
@@ -45,7 +44,7 @@ module _ (kind : ℕ) (d : DataParts) (commands body : List ℕ) (room : ℕ) wh
 
   pub kind_answers : (nwk app : List ℕ)
       → Answers (kind_conditions kind d commands body room) (length (data_frame_of nwk app d commands body))
-      (built_of (refused (data_refused kind d commands body room)) (length (data_frame_of nwk app d commands body)))
+      (built_of (data_refused kind d commands body room) (length (data_frame_of nwk app d commands body)))
   kind_answers nwk app = answers (length (data_frame_of nwk app d commands body)) kind_gives
 
 -- ---- answers of several bytes

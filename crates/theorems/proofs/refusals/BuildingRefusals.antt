@@ -15,12 +15,11 @@ use Rattle.frame.specs.declared.refusals.Refusal.{Refusal}
 use Rattle.frame.specs.declared.parser.FPort.{FPort}
 use Rattle.frame.specs.declared.parser.FPort.TheVariants.{Absent, Port}
 use Rattle.frame_build.specs.DataBuilding.{both, either, is_zero, is_absent, data_length, data_refusal_of}
-use Rattle.frame_build.specs.DataFrames.{data_frame_of}
-use Rattle.frame_security.specs.Built.{built_of, built_refusal}
+use Rattle.frame_build.specs.DataFrames.{data_frame_of, built_of, built_refusal}
 use Rattle.frame_build.specs.JoinBuilding.{too_high_of, join_accept_refusal_of, join_request_refusal}
 use Rattle.frame_build.specs.JoinFrames.{join_request_of, join_accept_of}
-use Rattle.frame_security.specs.declared.sealing.Built.{Built}
-use Rattle.frame_security.specs.declared.sealing.Built.TheVariants.{Frame, Refused}
+use Rattle.frame_build.specs.declared.creator.Built.{Built}
+use Rattle.frame_build.specs.declared.creator.Built.TheVariants.{Frame, Refused}
 use Rattle.frame_build.specs.declared.creator.data_frame.DataParts.{DataParts}
 use Rattle.frame_build.specs.declared.creator.join.JoinRequestParts.{JoinRequestParts}
 use Rattle.frame_build.specs.declared.creator.join.JoinAcceptParts.{JoinAcceptParts}
@@ -129,9 +128,9 @@ accept_gives j channels room =
 -- ---- and what a building answers by it
 
 -- what is due by the number is what is due by the answer
-pub answers : {cs : List Condition} {m : ℕ} (long : ℕ) → Gives plain cs m → Answers cs long (built_of (refused m) long)
+pub answers : {cs : List Condition} {m : ℕ} (long : ℕ) → Gives plain cs m → Answers cs long (built_of m long)
 answers long g =
-    let says : ℕ → Built = λ (n : ℕ). built_of (refused n) long in
+    let says : ℕ → Built = λ (n : ℕ). built_of n long in
     let back = says_told Refused (Frame long) built_refusal (λ r. refl) refl in
     let given = in_answer says built_refusal back g in
     record {
@@ -147,14 +146,14 @@ module _ (d : DataParts) (commands body : List ℕ) (room : ℕ) where
 
   pub data_answers : (nwk app : List ℕ)
       → Answers (data_conditions d commands body room) (length (data_frame_of nwk app d commands body))
-      (built_of (refused (data_refusal_of d commands body room)) (length (data_frame_of nwk app d commands body)))
+      (built_of (data_refusal_of d commands body room) (length (data_frame_of nwk app d commands body)))
   data_answers nwk app = answers (length (data_frame_of nwk app d commands body)) (data_gives d commands body room)
 
 pub request_refusals : (room n : ℕ) → Exactly (join_request_refusal room ≡ n) (Due (request_conditions room) n)
 request_refusals room = (request_gives room).exactly
 
 pub request_answers : (key : List ℕ) (j : JoinRequestParts) (room : ℕ)
-    → Answers (request_conditions room) (length (join_request_of key j)) (built_of (refused (join_request_refusal room)) (length (join_request_of key j)))
+    → Answers (request_conditions room) (length (join_request_of key j)) (built_of (join_request_refusal room) (length (join_request_of key j)))
 request_answers key j room = answers (length (join_request_of key j)) (request_gives room)
 
 module _ (j : JoinAcceptParts) (channels : List ℕ) (room : ℕ) where
@@ -163,14 +162,14 @@ module _ (j : JoinAcceptParts) (channels : List ℕ) (room : ℕ) where
 
   pub accept_answers : (key : List ℕ)
       → Answers (accept_conditions j channels room) (length (join_accept_of key j channels))
-      (built_of (refused (join_accept_refusal_of j channels room)) (length (join_accept_of key j channels)))
+      (built_of (join_accept_refusal_of j channels room) (length (join_accept_of key j channels)))
   accept_answers key = answers (length (join_accept_of key j channels)) (accept_gives j channels room)
 
 -- ---- the numbers of them and what is built, written out
 
 module _ (nwk app : List ℕ) (d : DataParts) (commands body : List ℕ) (room : ℕ) where
   abbrev data_answer : Built
-  data_answer = built_of (refused (data_refusal_of d commands body room)) (length (data_frame_of nwk app d commands body))
+  data_answer = built_of (data_refusal_of d commands body room) (length (data_frame_of nwk app d commands body))
 
   due_at : (n : ℕ) → 0 < n → Exactly (data_answer ≡ Refused (refused n)) (Due (data_conditions d commands body room) n)
   due_at = (data_answers d commands body room nwk app).refuses
@@ -215,7 +214,7 @@ module _ (nwk app : List ℕ) (d : DataParts) (commands body : List ℕ) (room :
 
 module _ (key : List ℕ) (j : JoinRequestParts) (room : ℕ) where
   abbrev request_answer : Built
-  request_answer = built_of (refused (join_request_refusal room)) (length (join_request_of key j))
+  request_answer = built_of (join_request_refusal room) (length (join_request_of key j))
 
   pub request_7 : Exactly (request_answer ≡ Refused (refused 7)) (room < 23)
   request_7 = (request_answers key j room).refuses 7 (omega arith)
@@ -225,7 +224,7 @@ module _ (key : List ℕ) (j : JoinRequestParts) (room : ℕ) where
 
 module _ (key : List ℕ) (j : JoinAcceptParts) (channels : List ℕ) (room : ℕ) where
   abbrev accept_answer : Built
-  accept_answer = built_of (refused (join_accept_refusal_of j channels room)) (length (join_accept_of key j channels))
+  accept_answer = built_of (join_accept_refusal_of j channels room) (length (join_accept_of key j channels))
 
   pub accept_8 : Exactly (accept_answer ≡ Refused (refused 8)) (WrongList j.with_c_f_list channels)
   accept_8 = (accept_answers j channels room key).refuses 8 (omega arith)

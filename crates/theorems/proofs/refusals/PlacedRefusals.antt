@@ -22,11 +22,10 @@ use Rattle.frame_opening.specs.declared.mic_tests.MicTest.TheVariants.{Passes, F
 use Rattle.frame_opening.specs.declared.payload.Opening.{Opening}
 use Rattle.frame_opening.specs.declared.payload.Opening.TheVariants.{Opened, Refused as RefusedOpening}
 use Rattle.frame_build.specs.DataBuilding.{data_refusal_of}
-use Rattle.frame_build.specs.DataFrames.{data_frame_of}
-use Rattle.frame_security.specs.Built.{built_of, built_refusal}
+use Rattle.frame_build.specs.DataFrames.{data_frame_of, built_of, built_refusal}
 use Rattle.frame_build.specs.JoinBuilding.{join_request_refusal, join_accept_refusal_of}
 use Rattle.frame_build.specs.JoinFrames.{join_request_of, join_accept_of}
-use Rattle.frame_security.specs.declared.sealing.Built.TheVariants.{Frame, Refused as NotBuilt}
+use Rattle.frame_build.specs.declared.creator.Built.TheVariants.{Frame, Refused as NotBuilt}
 use Rattle.frame_c.specs.CGiven.{data_refused}
 use Rattle.mac_commands.specs.Commands.{command_written, fields_written}
 use Rattle.mac_commands.specs.InFrame.{in_frame_of}
@@ -182,7 +181,7 @@ at_0 e = record { handed_on = λ s b. absurd b; else_0 = λ n. e }
 refuses_at_0 : {cs : List Condition} {x : Refusal} → Refuses cs x → x.place ≡ 0
 refuses_at_0 {cs} {x} a = by_equal x.place 0 (λ e. e) (λ m. absurd (a.no_other x (placed_not_own cs x m) refl))
 
-built_at_0 : (n long : ℕ) → (built_refusal (built_of (refused n) long)).place ≡ 0
+built_at_0 : (n long : ℕ) → (built_refusal (built_of n long)).place ≡ 0
 built_at_0 n long = ap (λ (r : Refusal). r.place) (says_told NotBuilt (Frame long) built_refusal (λ r. refl) refl n)
 
 written_at_0 : {cs : List Condition} {next : ℕ} (w : Written) → Writes cs next w → (written_refusal w).place ≡ 0

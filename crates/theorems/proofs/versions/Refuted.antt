@@ -17,8 +17,8 @@ use Rattle.frame.specs.declared.parser.Reading.{Reading}
 use Rattle.frame.specs.declared.numbers.Values.{Values}
 use Rattle.frame_security.specs.Sealing.{sealed}
 use Rattle.frame_build.specs.DataBuilding.{data_refusal_of, data_header, fixed_header_of}
-use Rattle.frame_security.specs.declared.sealing.Built.{Built}
-use Rattle.frame_security.specs.declared.sealing.Built.TheVariants.{Frame, Refused}
+use Rattle.frame_build.specs.declared.creator.Built.{Built}
+use Rattle.frame_build.specs.declared.creator.Built.TheVariants.{Frame, Refused}
 use Rattle.frame_build.specs.declared.creator.data_frame.DataParts.{DataParts}
 use Rattle.frame_build.proofs.DataBuiltLaws.{frame_long}
 use Rattle.amend.specs.Amending.{amend_of}
@@ -28,8 +28,7 @@ use Rattle.amend.specs.declared.amending.Open.{Open}
 use Rattle.amend.specs.declared.opening.Opened.{Opened}
 use Rattle.amend.proofs.Accepted.{accepted_opens}
 use Rattle.amend.proofs.Demand3.{state_after}
-use Rattle.frame_security.proofs.SealedFrames.{sealed-header, sealed_clear}
-use Rattle.amend.proofs.Sealed.{sealed-accepted}
+use Rattle.amend.proofs.Sealed.{sealed-header, sealed_clear, sealed-accepted}
 use Rattle.theorems.specs.PrintedFips197.{key_B}
 use Rattle.theorems.specs.WrongVersions.{Reads, RefusesEach, SameForAll, Builder, BuildsData, Reports, Amends, untouched, stored, stores_only, signs_first, ConstantMic}
 use Rattle.theorems.proofs.versions.TwoFrames.{template, frame_of, frame_of_1, frame_of_2}

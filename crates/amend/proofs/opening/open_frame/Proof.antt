@@ -8,10 +8,10 @@ use Rattle.frame.specs.ReadingNumbers.{other_refusal_of}
 use Rattle.frame.specs.Reading.{read_of}
 use Rattle.frame.specs.declared.parser.Reading.{Reading}
 use Rattle.frame.specs.declared.parser.Reading.TheVariants.{Data}
-use Rattle.frame.proofs.ReadingLaws.{data_read, read_fcnt_lem}
+use Rattle.frame.proofs.ReadingLaws.{data_read}
 use Rattle.frame.specs.contracts.parser.Reading as R
 use Rattle.amend.specs.OpenFrame.{refused_opening}
-use Rattle.amend.proofs.OpeningLaws.{open_data_lem, open_other, counter_right, counter_wrong}
+use Rattle.amend.proofs.OpeningLaws.{open_data_lem, open_other, counter_right, counter_wrong, read_fcnt_lem}
 use Rattle.amend.proofs.opening.open_frame.Statement.{statement}
 use Rattle.amend.proofs.opening.open_frame.Tie as tie
 

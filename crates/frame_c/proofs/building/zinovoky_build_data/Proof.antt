@@ -1,9 +1,12 @@
 -- `zinovoky_build_data` refuses a kind that is none, and else answers what `build_data` does, of the parts given.
 -- Assumes nothing.
 use borrow.Author.Rules.{rules}
-use mathlib.Core.Path.{refl}
+use mathlib.Core.Path.{refl, ap, sym, ◌∙◌}
+use lib.ListN.{length}
+use Rattle.frame_build.specs.DataBuilding.{data_refusal_of}
 use Rattle.frame_build.specs.DataFrames.{data_frame_of}
-use Rattle.frame_c.proofs.Buildings.{refused_kind, below_data, above_data, kind_made}
+use Rattle.frame_build.specs.declared.creator.data_frame.DataParts.{DataParts}
+use Rattle.frame_c.proofs.Buildings.{made, refused_kind, below_data, above_data, of_data}
 use Rattle.frame_c.proofs.building.zinovoky_build_data.Statement.{statement}
 use Rattle.frame_c.proofs.building.zinovoky_build_data.Tie as tie
 
@@ -21,8 +24,12 @@ returns-3 c =
     let tested = tested2.before in
     let start = tested.before.before.before.before in
     let a = start.args in
-    kind_made _ _ _ (λ d. data_frame_of a.nwk-skey.now a.app-skey.now d a.commands.now a.payload.now) tested.if1.false
-    tested2.if2.false at-data-parts.data-parts.ensures at-build-data.build_data_lem.ensures.0 c.built-answer.ensures
+    let parts = at-data-parts.data-parts.ensures in
+    made at-build-data.build_data_lem.ensures.0
+    (ap (λ (d : DataParts). data_refusal_of d a.commands.now a.payload.now (length a.out.now)) parts
+    ∙ sym (of_data _ _ _ _ _ tested.if1.false tested2.if2.false))
+    (ap (λ (d : DataParts). data_frame_of a.nwk-skey.now a.app-skey.now d a.commands.now a.payload.now) parts)
+    c.built-answer.ensures
 
 pub zinovoky-build-data-spec : {M : Type 1} → statement M
 zinovoky-build-data-spec = tie.close (tie.spec (λ c κs. search rules) returns (λ c κs. search rules) returns-2 (λ c κs. search rules) (λ c κs. search rules) (λ c κs. search rules) (λ c. search rules) returns-3)

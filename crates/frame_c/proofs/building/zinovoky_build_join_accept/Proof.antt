@@ -6,7 +6,6 @@ use lib.ListN.{length}
 use Rattle.frame_build.specs.JoinBuilding.{join_accept_refusal_of}
 use Rattle.frame_build.specs.JoinFrames.{join_accept_of}
 use Rattle.frame_build.specs.declared.creator.join.JoinAcceptParts.{JoinAcceptParts}
-use Rattle.frame.specs.Refusals.{refused}
 use Rattle.frame_c.proofs.Buildings.{made}
 use Rattle.frame_c.proofs.building.zinovoky_build_join_accept.Statement.{statement}
 use Rattle.frame_c.proofs.building.zinovoky_build_join_accept.Tie as tie
@@ -19,7 +18,7 @@ returns c =
     let a = start.args in
     let parts = at-accept-parts.accept-parts.ensures in
     made at-build-join-accept.build-join-accept.ensures.0
-    (ap (λ (j : JoinAcceptParts). refused (join_accept_refusal_of j a.channels.now (length a.out.now))) parts)
+    (ap (λ (j : JoinAcceptParts). join_accept_refusal_of j a.channels.now (length a.out.now)) parts)
     (ap (λ (j : JoinAcceptParts). join_accept_of a.app-key.now j a.channels.now) parts) c.built-answer.ensures
 
 pub zinovoky-build-join-accept-spec : {M : Type 1} → statement M

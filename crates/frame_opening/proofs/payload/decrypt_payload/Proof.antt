@@ -5,9 +5,14 @@ use native.Mathlib.Omega.{arith}
 use borrow.Author.Rules.{rules}
 use Rattle.frame_security.specs.Security.{full_counter_of}
 use Rattle.frame_security.proofs.SecurityLaws.{crypted-nothing}
-use Rattle.frame_opening.proofs.OpeningLaws.{decrypted_in_place}
+use Rattle.frame_opening.proofs.OpeningLaws.{fopts_place, decrypted_in_place}
 use Rattle.frame_opening.proofs.payload.decrypt_payload.Statement.{statement}
 use Rattle.frame_opening.proofs.payload.decrypt_payload.Tie as tie
+
+fopts-least : tie.Need-header-end-requires
+fopts-least c κs =
+    let s = c.before in
+    omega (arith, fopts_place s.args.frame.now s.args.fields s.requires.1, s.requires.0.most, s.requires.0.fits)
 
 -- no payload: there is nothing to decrypt
 returns : tie.Need-returns
@@ -32,4 +37,4 @@ returns-2 c =
 pub decrypt-payload-spec : {M : Type 1} → statement M
 decrypt-payload-spec =
     tie.close
-    (tie.spec (λ c κs. search rules) returns (λ c κs. search rules) (λ c κs. search rules) (λ c. search rules) returns-2)
+    (tie.spec fopts-least returns (λ c κs. search rules) (λ c κs. search rules) (λ c. search rules) returns-2)

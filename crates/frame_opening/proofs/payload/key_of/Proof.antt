@@ -5,9 +5,14 @@ use native.Mathlib.Omega.{arith}
 use lib.ListN.{length-take}
 use borrow.Author.Rules.{rules}
 use Rattle.frame_security.proofs.SecurityLaws.{key_network, key_application}
-use Rattle.frame_opening.proofs.OpeningLaws.{mic_place_lem, chosen}
+use Rattle.frame_opening.proofs.OpeningLaws.{fopts_place, mic_place_lem, chosen}
 use Rattle.frame_opening.proofs.payload.key_of.Statement.{statement}
 use Rattle.frame_opening.proofs.payload.key_of.Tie as tie
+
+fopts-least : tie.Need-header-end-requires
+fopts-least c κs =
+    let s = c.before in
+    omega (arith, fopts_place s.args.frame.now s.args.fields s.requires.1, s.requires.0.most, s.requires.0.fits)
 
 header-fits : tie.Need-slice-aggregate-by-network-key
 header-fits c =
@@ -38,4 +43,4 @@ application c =
 
 pub key-of-spec : {M : Type 1} → statement M
 key-of-spec =
-    tie.close (tie.spec (λ c κs. search rules) header-fits ahead-of-mic (λ c κs. search rules) network application)
+    tie.close (tie.spec fopts-least header-fits ahead-of-mic (λ c κs. search rules) network application)

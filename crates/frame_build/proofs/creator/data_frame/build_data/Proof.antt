@@ -1,31 +1,62 @@
--- `build_data` meets its contract: it fills, and seals what was filled, which is to build.
+-- `build_data` meets its contract: a frame that nothing refuses is filled, and sealed where it lies.
 -- Assumes nothing.
+use mathlib.Core.Path.{sym, ap, ◌∙◌}
+use Prim.Native.Nat.{ℕ, ◌-◌}
+use native.Mathlib.Omega.{arith}
 use borrow.Author.Rules.{rules}
-use Rattle.frame_security.proofs.BuiltLaws.{built_frame, refused_alike}
-use Rattle.frame_build.proofs.InTurn.{seals_filled}
+use lib.ListN.{length}
+use Rattle.frame_build.specs.GivenParts.{DataGiven}
+use Rattle.frame_build.proofs.DataRefusals.{Roomy, roomy}
+use Rattle.frame_security.proofs.SealingLaws.{seal_inside_lem}
+use Rattle.frame_build.proofs.DataBuiltLaws.{not_built, built, sealed_built}
 use Rattle.frame_build.proofs.creator.data_frame.build_data.Statement.{statement}
 use Rattle.frame_build.proofs.creator.data_frame.build_data.Tie as tie
 
+sizes : (c : tie.Start) → DataGiven c.args.d
+sizes c = record { address = search rules }
+
+-- what is known once nothing is refused
+room : (c : tie.Else1)
+    → Roomy c.before.before.before.before.before.args.d c.before.before.before.before.before.args.commands.now
+    c.before.before.before.before.before.args.payload.now (length c.before.before.before.before.before.args.out.now)
+room c =
+    let start = c.before.before.before.before.before in
+    roomy start.args.d (sizes start).address _ _ _ (sym c.before.data-refusal.ensures ∙ c.if1.false)
+
 returns : tie.Need-returns
-returns c =
-    let filled = c.before.before.before.before.fill-data.ensures in
-    (refused_alike _ _ _ _ _ filled.0 _ c.enum_told.given.1 _, filled.1)
+returns c = (not_built c.before.data-refusal.ensures c.if1.true, sizes c.before.before.before.before.before)
+
+fill-requires : tie.Need-fill-requires
+fill-requires c κs = sym c.before.before.data-refusal.ensures ∙ c.before.if1.false
+
+sub-start : tie.Need-overflow-sub-start
+sub-start c =
+    let filled = c.before.before.before in
+    omega (arith, room filled.before.before, filled.fill.ensures.next, c.body-length.ensures)
+
+add-t12 : tie.Need-overflow-add-t12
+add-t12 c =
+    let filled = c.before.before.before.before.before.before.before in
+    omega (arith, room filled.before.before, filled.fill.ensures.next)
 
 returns-2 : tie.Need-returns-2
 returns-2 c =
     let sealed = c.before.before in
-    let told = sealed.before.before.before in
-    let at_fill_lem = told.before.before.before.before in
-    let args = at_fill_lem.before.before.before.before.before.args in
-    let filled = at_fill_lem.fill-data.ensures in
-    let made = built_frame _ _ _ _ _ filled.0 _ told.filled.given.1 in (
-      seals_filled args.d filled.1 args.commands.now args.payload.now args.out.now _ _ made _ _ _ _
-          sealed.seal-data.ensures,
-      filled.1,
+    let body = sealed.before.before in
+    let filled = body.before.before.before in
+    let tested = filled.before.before in
+    let k = room tested in
+    let end = filled.fill.result in (
+      built tested.before.data-refusal.ensures tested.if1.false
+          (sealed_built _ _ _ _ _ _ _ _ _ _ filled.fill.ensures (ap (λ (n : ℕ). end - n) body.body-length.ensures) k.within
+          (sealed.seal.ensures
+          ∙ seal_inside_lem _ _ _ _ _ _ (omega (arith, k, filled.fill.ensures.next, body.body-length.ensures))
+          (omega (arith, body.body-length.ensures)) (omega (arith, k, filled.fill.ensures.next, filled.fill.auto)))),
+      sizes tested.before.before.before.before.before,
     )
 
 pub build-data-spec : {M : Type 1} → statement M
 build-data-spec =
     tie.close
-    (tie.spec (λ c κs. search rules) (λ c. search rules) (λ c. search rules) (λ c. search rules) returns (λ c κs. search rules)
+    (tie.spec (λ c κs. search rules) returns fill-requires (λ c κs. search rules) sub-start (λ c κs. search rules) add-t12
     (λ c. search rules) returns-2)

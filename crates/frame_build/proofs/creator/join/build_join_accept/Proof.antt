@@ -1,15 +1,14 @@
 -- `build_join_accept` meets its contract: the clear bytes and their MIC are stored, and the blocks from byte 1 deciphered
 -- where they lie.
 -- Assumes nothing.
-use mathlib.Core.Path.{refl, sym, ap, ◌∙◌}
+use mathlib.Core.Path.{refl, sym, ◌∙◌}
 use Prim.Native.Nat.{◌+◌, ◌≤◌}
 use native.Mathlib.Omega.{arith}
 use lib.ListN.{length}
 use Rattle.base.proofs.Put.{put_length_lem}
 use Rattle.frame_build.specs.GivenParts.{AcceptGiven}
 use Rattle.frame_build.specs.JoinBuilding.{join_accept_body}
-use Rattle.frame.specs.Refusals.{refused}
-use Rattle.frame_security.proofs.BuiltLaws.{not_built, built}
+use Rattle.frame_build.proofs.DataBuiltLaws.{not_built, built}
 use Rattle.frame_build.proofs.GivenBytes.{array_given, field_given}
 use Rattle.frame_build.proofs.JoinBuiltLaws.{mic_next, accept_built}
 use Rattle.frame_build.proofs.JoinBodies.{accept_least, accept_room, body_and_mic}
@@ -44,7 +43,7 @@ sizes c =
     (omega (arith, whole, accept_least j.with_c_f_list), omega (arith, whole, room))
 
 returns : tie.Need-returns
-returns c = (not_built refl (ap refused c.before.join-accept-refusal.ensures) c.if1.true, given c.before.before.before.before)
+returns c = (not_built c.before.join-accept-refusal.ensures c.if1.true, given c.before.before.before.before)
 
 fill-accept-requires : tie.Need-fill-accept-requires
 fill-accept-requires c κs = accept_room _ _ _ (sym c.before.before.join-accept-refusal.ensures ∙ c.before.if1.false)
@@ -68,7 +67,7 @@ returns-2 c =
     let at-fill-accept = at_sign.before.before.before.before in
     let tested = at-fill-accept.before.before in
     let at-join-accept-refusal = tested.before in (
-      built (sym at-join-accept-refusal.join-accept-refusal.ensures ∙ tested.if1.false)
+      built at-join-accept-refusal.join-accept-refusal.ensures tested.if1.false
           (accept_built _ _ _ _ _ _ _ _ at-fill-accept.fill-accept.ensures at_sign.sign.ensures (sizes (tested)).1 (c.before.before.each-block.ensures ∙ deciphers _ _ _) refl),
       given tested.before.before.before.before,
     )

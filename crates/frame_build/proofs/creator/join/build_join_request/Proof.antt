@@ -1,13 +1,12 @@
 -- `build_join_request` meets its contract: the fields are stored one after another, and the MIC behind them.
 -- Assumes nothing.
-use mathlib.Core.Path.{◌≡◌, refl, sym, ap}
+use mathlib.Core.Path.{◌≡◌, refl}
 use native.Mathlib.Omega.{arith}
 use lib.ListN.{length}
 use Rattle.base.proofs.Put.{put_length_lem}
 use Rattle.frame_build.specs.GivenParts.{RequestGiven}
 use Rattle.frame_build.specs.JoinBuilding.{join_request_body}
-use Rattle.frame.specs.Refusals.{refused}
-use Rattle.frame_security.proofs.BuiltLaws.{not_built, built}
+use Rattle.frame_build.proofs.DataBuiltLaws.{not_built, built}
 use Rattle.frame_build.proofs.JoinBuiltLaws.{signed_put}
 use Rattle.frame_build.proofs.JoinBodies.{request_refused, request_accepted, length_request, seven}
 use borrow.Author.Rules.{rules}
@@ -21,7 +20,7 @@ long : (c : tie.Start) → length (join_request_body c.args.j) ≡ 19
 long c = length_request c.args.j (given c).app (given c).dev (given c).nonce
 
 returns : tie.Need-returns
-returns c = (not_built refl (ap refused (request_refused _ c.if1.true)) seven, given c.before.before)
+returns c = (not_built (request_refused _ c.if1.true) seven, given c.before.before)
 
 sign-requires : tie.Need-sign-requires
 sign-requires c κs = omega (arith, c.before.before.before.fill-request.ensures.next, put_length_lem c.before.before.before.fill-request.ensures, long c.before.before.before.before.before.before.before, c.before.before.before.before.before.if1.false)
@@ -31,7 +30,7 @@ returns-2 c =
     let at-fill-request = c.before.before.before.before.before.before in
     let tested = at-fill-request.before.before in
     let start = tested.before.before in (
-      built (sym (request_accepted _ tested.if1.false))
+      built (request_accepted _ tested.if1.false) refl
           (signed_put _ at-fill-request.fill-request.ensures c.before.before.sign.ensures (omega (arith, long (start), tested.if1.false))),
       given start,
     )
