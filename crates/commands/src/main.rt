@@ -1,5 +1,6 @@
 // Reads one frame as raw bytes from standard input, to its end, and writes its MAC commands to standard output (docs/RULES.md,
 // "Text"). With the argument `clear` the payload on port 0 is taken as decrypted.
+#![tactic(auto)]
 use input::START_ROOM;
 use libc::STDERR_FILENO;
 

@@ -1,6 +1,7 @@
 // Writes the MAC commands of each frame that standard input holds, and a line with two dashes after them. A frame stands there
 // after its length in two bytes, low byte first, and a byte that is 1 where its payload on port 0 is taken as decrypted. What must
 // come out tools/commands_cases.py made from docs/RULES.md.
+#![tactic(auto)]
 use input::RECORD_ROOM;
 use libc::{STDIN_FILENO, STDOUT_FILENO};
 

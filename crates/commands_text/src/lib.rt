@@ -1,5 +1,6 @@
 // The MAC commands of a frame as text for a person, on standard output (docs/RULES.md, "Text"). Each function here answers whether
 // all that it has to say was written.
+#![tactic(auto)]
 ghost use Rattle.std.specs.Prelude.{◌≡◌, true, ◌≤◌, pos, nat_abs, length};
 ghost use Rattle.std.specs.Int.Signed.{lt_z};
 ghost use Rattle.commands_text.specs.Within.{Within};

@@ -1,4 +1,5 @@
 // What programs share that read frames from standard input: an input of any length, of which the start is kept, and records.
+#![tactic(auto)]
 ghost use Rattle.std.specs.Prelude.{◌≤◌};
 ghost use Rattle.io.specs.Counts.{IsPrefixLen};
 

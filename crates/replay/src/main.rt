@@ -1,6 +1,7 @@
 // Makes a call of the codec for each recorded case of standard input: a line of hex has its answer, the last line says how
 // many there were. tools/oracle/README.md has the formats; tools/oracle/record.py lays the cases and the right answers
 // beside this program, whose contracts say only that it is safe and ends.
+#![tactic(auto)]
 use crate::input::ROOM;
 use libc::{STDERR_FILENO, STDIN_FILENO, STDOUT_FILENO};
 

@@ -1,5 +1,6 @@
 // Writes the text of each frame that standard input holds, and a line with two dashes after it. A frame stands there
 // after its length in two bytes, low byte first. What must come out tools/show_cases.py made from docs/RULES.md.
+#![tactic(auto)]
 use input::RECORD_ROOM;
 use libc::{STDIN_FILENO, STDOUT_FILENO};
 use show_text::TEXT_ROOM;
