@@ -1,5 +1,6 @@
 // AES-128 both ways, by FIPS 197: a block under a schedule or under a key.
 #![tactic(auto)]
+
 ghost use Rattle.std.specs.Prelude.{◌≡◌, ◌<◌};
 ghost use Rattle.aes.specs.Field.{s_box, inv_sbox};
 ghost use Rattle.aes.specs.KeyExpansion.{key_expansion_of};

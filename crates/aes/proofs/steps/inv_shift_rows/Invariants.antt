@@ -1,0 +1,11 @@
+use Prim.Native.Nat.{◌-◌}
+use Rattle.base.specs.Bytes.{at}
+use Rattle.base.proofs.Filling.{Filling}
+use Rattle.aes.specs.Fips197.{shifted_back_from}
+use Rattle.aes.proofs.steps.inv_shift_rows.Given as goal
+
+abbrev pub invariant-loop-i : goal.invariant-loop-i
+invariant-loop-i l = Filling 16 (λ k. at l.s (shifted_back_from k)) l.r l.i
+
+abbrev pub decreases-loop-i : goal.decreases-loop-i
+decreases-loop-i l = 16 - l.i
