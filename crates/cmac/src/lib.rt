@@ -1,6 +1,7 @@
 // CMAC with AES-128 (RFC 4493): a running state that takes the message in parts, and the tag. The cipher is cited by what
 // its crate states.
 #![tactic(auto)]
+
 ghost use Rattle.std.specs.Prelude.{◌≡◌, ◌+◌, ◌≤◌, length};
 ghost use Rattle.base.specs.Bytes.{part, xor_lists};
 ghost use Rattle.aes.specs.KeyExpansion.{key_expansion_of};
