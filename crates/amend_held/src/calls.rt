@@ -15,7 +15,7 @@ use base::storing::{put, wide};
 use frame::refusals::{BUFFER_TOO_SHORT, Refusal};
 
 // What taking the frame out gives: 0 and how many bytes it has, or a refusal.
-#[derive(Drop)]
+#[derive(Clone, Copy)]
 pub struct Taken {
     pub refusal: Refusal,
     pub length: usize,

@@ -15,7 +15,7 @@ use crate::refusals::Refusal;
 use base::storing::{four_at, three_at};
 
 // The fields of a join-request (6.2.4), beside the refusal.
-#[derive(Drop)]
+#[derive(Clone, Copy)]
 pub struct JoinRequestFields {
     pub refusal: Refusal,
     pub app_eui: [u8; 8],
@@ -25,7 +25,7 @@ pub struct JoinRequestFields {
 }
 
 // The list that a join-accept holds (6.2.5).
-#[derive(Drop)]
+#[derive(Clone, Copy)]
 pub enum CfList {
     Absent,
     Frequencies,
@@ -34,7 +34,7 @@ pub enum CfList {
 
 // The fields of a clear join-accept (6.2.5), beside the refusal. A frequency is in units of
 // 100 Hz; of the two lists, the one that cf_list does not name is zeros.
-#[derive(Drop)]
+#[derive(Clone, Copy)]
 pub struct JoinAcceptFields {
     pub refusal: Refusal,
     pub app_nonce: [u8; 3],

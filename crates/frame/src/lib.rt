@@ -1,5 +1,6 @@
 // Reading LoRaWAN 1.0 frames, after crate lorawan 0.9.0: one module to a file of that crate.
 #![tactic(auto)]
+
 pub mod join_fields;
 pub mod keys;
 pub mod numbers;

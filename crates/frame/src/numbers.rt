@@ -9,7 +9,7 @@ use crate::refusals::{INVALID_DATA, Refusal};
 
 // A reading as plain numbers, for callers that know no enum. kind is 0 of a refusal, 1 of a join-request, 2 of a
 // join-accept, 3 of data; payload_kind is 0 of none, 1 of data, 2 of commands. What a kind does not have is 0.
-#[derive(Drop)]
+#[derive(Clone, Copy)]
 pub struct Values {
     pub kind: u8,
     pub number: u8,

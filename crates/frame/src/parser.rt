@@ -18,14 +18,14 @@ use base::storing::wide;
 use frame_bits::fctrl::message_type;
 
 // The port that a data frame reports (4.3.2).
-#[derive(Drop)]
+#[derive(Clone, Copy)]
 pub enum FPort {
     Absent,
     Port(u8),
 }
 
 // The payload of a data frame (4.3.3), by its first byte's place and the place past its last.
-#[derive(Drop)]
+#[derive(Clone, Copy)]
 pub enum FrmPayload {
     Nothing,
     Data(usize, usize),
@@ -34,7 +34,7 @@ pub enum FrmPayload {
 
 // What a data frame holds: its type (2 to 5), FCtrl, FCnt, and where each part lies that has no fixed place. FOpts are
 // the bytes from 8 up to fopts_end, the MIC the four from mic on.
-#[derive(Drop)]
+#[derive(Clone, Copy)]
 pub struct DataFrame {
     pub mtype: u8,
     pub fctrl: u8,
@@ -46,7 +46,7 @@ pub struct DataFrame {
 }
 
 // What reading gives: the kind of the frame with its values, or a refusal.
-#[derive(Drop)]
+#[derive(Clone, Copy)]
 pub enum Reading {
     JoinRequest,
     JoinAccept(usize),

@@ -5,7 +5,7 @@ pub mod data_frame;
 pub mod join;
 
 // What building gives: the length of the frame that now stands at the start of the output, or a refusal.
-#[derive(Drop)]
+#[derive(Clone, Copy)]
 pub enum Built {
     Frame(usize),
     Refused(Refusal),

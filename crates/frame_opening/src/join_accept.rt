@@ -15,7 +15,7 @@ use frame::refusals::Refusal;
 use frame_security::ecb::each_block;
 
 // The keys of a session (6.2.5), beside the refusal.
-#[derive(Drop)]
+#[derive(Clone, Copy)]
 pub struct SessionKeys {
     pub refusal: Refusal,
     pub nwk_skey: [u8; 16],

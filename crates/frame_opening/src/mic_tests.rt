@@ -14,7 +14,7 @@ use frame_security::mic::same_mic;
 use frame_security::securityhelpers::{calculate_data_mic, calculate_mic};
 
 // Whether the MIC of a frame is right, or why it cannot be tested.
-#[derive(Drop)]
+#[derive(Clone, Copy)]
 pub enum MicTest {
     Passes,
     Fails,

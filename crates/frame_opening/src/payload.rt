@@ -13,7 +13,7 @@ use frame::refusals::{INVALID_KEY, Refusal};
 use frame_security::securityhelpers::{by_network_key, encrypt_part, full_counter};
 
 // A frame was decrypted where it lies, or it was refused and no byte of it changed.
-#[derive(Drop)]
+#[derive(Clone, Copy)]
 pub enum Opening {
     Opened,
     Refused(Refusal),

@@ -10,7 +10,7 @@ use frame_bits::fctrl::is_uplink;
 // The direction of a frame's commands, and the ends of its two lists: `read_step` on the bytes up to fopts_end gives those of
 // FOpts, from place 8 on; on the bytes up to payload_end, of a clear payload, those on port 0, from payload_start on. A frame
 // with a list on port 0, which may be empty, has on_port_0.
-#[derive(Drop)]
+#[derive(Clone, Copy)]
 pub struct CommandLists {
     pub uplink: bool,
     pub fopts_end: usize,
@@ -19,7 +19,7 @@ pub struct CommandLists {
     pub payload_end: usize,
 }
 
-#[derive(Drop)]
+#[derive(Clone, Copy)]
 pub enum InFrame {
     Lists(CommandLists),
     Refused(Refusal),

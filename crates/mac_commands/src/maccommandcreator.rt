@@ -12,14 +12,14 @@ use frame::refusals::{BUFFER_TOO_SHORT, Refusal, UNKNOWN_COMMAND, VALUE_OUT_OF_R
 
 // A command as numbers: its row in the table (the nine that go down by their identifiers, then the nine that go up) and its
 // values in the order of its fields, with zeros behind them.
-#[derive(Drop)]
+#[derive(Clone, Copy)]
 pub struct Fields {
     pub row: usize,
     pub values: [u32; FIELDS_MAX],
 }
 
 // What writing answers: the place past the command, or a refusal.
-#[derive(Drop)]
+#[derive(Clone, Copy)]
 pub enum Written {
     Upto(usize),
     Refused(Refusal),

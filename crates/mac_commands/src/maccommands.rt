@@ -9,7 +9,7 @@ use frame::refusals::{COMMAND_CUT_SHORT, Refusal, UNKNOWN_COMMAND};
 
 // A command with its fields. The first nine go down, the last nine up, both by their identifiers 02 to 0A. Frequencies are in
 // units of 100 Hz.
-#[derive(Drop)]
+#[derive(Clone, Copy)]
 pub enum Command {
     LinkCheckAns {
         margin: u8,
@@ -78,7 +78,7 @@ pub enum Command {
 }
 
 // One step of reading: a command and the place of the next one, the end of the list, or a refusal with its place.
-#[derive(Drop)]
+#[derive(Clone, Copy)]
 pub enum Step {
     Found(Command, usize),
     End,
@@ -86,7 +86,7 @@ pub enum Step {
 }
 
 // The same with the command as it stands in the bytes: its row in the table and the number behind its identifier.
-#[derive(Drop)]
+#[derive(Clone, Copy)]
 pub enum RawStep {
     Found(usize, u64, usize),
     End,

@@ -19,7 +19,7 @@ use frame::refusals::{BUFFER_TOO_SHORT, FRAME_TOO_LONG, Refusal};
 pub const TEXT_ROOM: usize = 128;
 
 // A text that was written: how many bytes it has, beside the refusal.
-#[derive(Drop)]
+#[derive(Clone, Copy)]
 pub struct Description {
     pub refusal: Refusal,
     pub length: usize,

@@ -9,7 +9,7 @@ use frame::packet_length::{
 };
 
 // The parts that a view shows: those of a data frame (4.3), those of a join-request (6.2.4), and the MIC of both (4.4).
-#[derive(Drop)]
+#[derive(Clone, Copy)]
 pub enum Field {
     DevAddr,
     FOpts,
@@ -21,7 +21,7 @@ pub enum Field {
 }
 
 // Where a part lies: from start up to end.
-#[derive(Drop)]
+#[derive(Clone, Copy)]
 pub struct Place {
     pub start: usize,
     pub end: usize,

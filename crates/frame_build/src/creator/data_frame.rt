@@ -17,7 +17,7 @@ use frame::refusals::{
 use frame_security::sealing::seal;
 
 // A data frame (4.3): its kind, the address in frame order, FCtrl with a low nibble of 0, the whole counter and the port.
-#[derive(Drop)]
+#[derive(Clone, Copy)]
 pub struct DataParts {
     pub confirmed: bool,
     pub uplink: bool,

@@ -16,7 +16,7 @@ use frame_security::ecb::each_block;
 use frame_security::securityhelpers::calculate_mic;
 
 // A join-request (6.2.4), each field in frame order.
-#[derive(Drop)]
+#[derive(Clone, Copy)]
 pub struct JoinRequestParts {
     pub app_eui: [u8; 8],
     pub dev_eui: [u8; 8],
@@ -24,7 +24,7 @@ pub struct JoinRequestParts {
 }
 
 // A join-accept (6.2.5), each field in frame order. Where with_c_f_list is false, no channel is looked at.
-#[derive(Drop)]
+#[derive(Clone, Copy)]
 pub struct JoinAcceptParts {
     pub app_nonce: [u8; 3],
     pub net_id: [u8; 3],
