@@ -191,6 +191,27 @@ def main():
             turned = turned_text(f, text, new, words)
             if turned != text:
                 f.write_text(turned)
+    drop_marks()
+
+
+# names that a page alone has beside the marked one
+UNMARKED = {"session_keys", "command_lists", "demand_3"}
+
+
+def drop_marks():
+    """Takes `_lem` off where no file has the plain name beside the marked one."""
+    files = [f for f in tracked() if f.suffix in (".antt", ".edit") or f.parts[0] == "docs" and f.suffix == ".md" and "notes" not in f.parts]
+    texts = {f: f.read_text() for f in files}
+    bases = {m[:-4] for t in texts.values() for m in re.findall(r"(?<![\w'-])[a-z_0-9]+_lem(?![\w'-])", t)}
+    for base in sorted(bases):
+        marked = re.compile(rf"(?<![\w'-]){base}_lem(?![\w'-])")
+        plain = re.compile(rf"(?<![\w'.-]){base}(?![\w'.-])")
+        both = [f for f, t in texts.items() if marked.search(t) and plain.search(re.sub(r"--.*", "", t))]
+        if not both or base in UNMARKED:
+            texts = {f: marked.sub(base, t) for f, t in texts.items()}
+    for f, t in texts.items():
+        if f.read_text() != t:
+            f.write_text(t)
 
 
 if __name__ == "__main__":

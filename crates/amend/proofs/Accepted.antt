@@ -25,7 +25,7 @@ use Rattle.amend.proofs.OpeningLaws.{open_data_lem, counter_right}
 
 -- a data frame whose counter and MIC are right
 pub record Accepted (f nwk : List ℕ) (counter : ℕ) : Type 0 where
-  pub data_frame_lem : IsData f
+  pub data_frame : IsData f
   pub low_half : counter % 65536 ≡ fcnt f
   pub signed : data_mic_of nwk (covered f) counter ≡ mic_of_of f
 
@@ -40,7 +40,7 @@ module _ (f nwk app : List ℕ) (counter : ℕ) where
   pub accepted_opens : Accepted f nwk counter → open_of f nwk app counter ≡ accepted_opening (opened_of f nwk app counter)
   unfolding open_checked_of
   accepted_opens a =
-      open_data_lem f nwk app counter a.data_frame_lem
+      open_data_lem f nwk app counter a.data_frame
       ∙ counter_right f nwk app counter a.low_half
       ∙ ap (λ (t : Bool). pick t (accepted_opening (opened_of f nwk app counter)) (refused_opening (refused 5)))
       (test_of_same (data_mic_of nwk (covered f) counter) (mic_of_of f) a.signed)
@@ -52,7 +52,7 @@ module _ (f nwk app : List ℕ) (counter : ℕ) where
       (accepted_opening (opened_of f nwk app counter)) (refused_opening (refused 5)) (refused_opening (refused 14)) e
       (λ q. omega arith) (λ q. omega arith) in
       record {
-        data_frame_lem = h;
+        data_frame = h;
         low_half = eqb-true (counter % 65536) (fcnt f) passed.0;
         signed = same_of_test (data_mic_of nwk (covered f) counter) (mic_of_of f) passed.1;
       }

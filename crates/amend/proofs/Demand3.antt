@@ -81,13 +81,13 @@ module _ (nwk app : List ℕ) (counter : ℕ) where
       → (amend_of (opened f) k v).state ≡ opened (sealed nwk app counter (header f) (set (clear_of f nwk app counter) k v))
   step_inside f k v a h =
       ap (λ (r : Amended). r.state)
-      (amend_inside (opened f) k v (omega (arith, payload_count f nwk app counter a.data_frame_lem)))
+      (amend_inside (opened f) k v (omega (arith, payload_count f nwk app counter a.data_frame)))
       ∙ amended_opened f nwk app counter k v a h
 
   step_outside : (f : List ℕ) (k v : ℕ) → Accepted f nwk counter → length (payload f) ≤ k → (amend_of (opened f) k v).state ≡ opened f
   step_outside f k v a h =
       ap (λ (r : Amended). r.state)
-      (amend_outside (opened f) k v (omega (arith, payload_count f nwk app counter a.data_frame_lem)))
+      (amend_outside (opened f) k v (omega (arith, payload_count f nwk app counter a.data_frame)))
 
   pub amended_by_lem : (list : List Amendment) (f : List ℕ) → Accepted f nwk counter → amended_by (opened f) list ≡ opened (after f list)
   unfolding amended_by payload_by
@@ -97,7 +97,7 @@ module _ (nwk app : List ℕ) (counter : ℕ) where
       let v = x.value in
       let clear = clear_of f nwk app counter in
       let g = sealed nwk app counter (header f) (set clear k v) in
-      let h = a.data_frame_lem in
+      let h = a.data_frame in
       by_order (length (payload f)) k
       (λ l.
       ap (λ (s : Open). amended_by s list) (step_outside f k v a l)
@@ -118,7 +118,7 @@ module _ (nwk app : List ℕ) (counter : ℕ) where
 module _ (f nwk app : List ℕ) (counter : ℕ) where
   opened_stands : (g : List ℕ) → Accepted g nwk counter → take (opened_of g nwk app counter).length (opened_of g nwk app counter).frame ≡ g
   unfolding opened_of
-  opened_stands g a = held-take g a.data_frame_lem.most (length g) (omega arith) ∙ take_all (length g) g (omega arith)
+  opened_stands g a = held-take g a.data_frame.most (length g) (omega arith) ∙ take_all (length g) g (omega arith)
 
   opened_long : (g : List ℕ) → (opened_of g nwk app counter).length ≡ length g
   unfolding opened_of
@@ -129,7 +129,7 @@ module _ (f nwk app : List ℕ) (counter : ℕ) where
 
   pub after_accepted : Accepted f nwk counter → (list : List Amendment) → Accepted (after nwk app counter f list) nwk counter
   after_accepted a list =
-      sealed-accepted f nwk app counter a.data_frame_lem (payload_by (clear_of f nwk app counter) list) (payload_same list) a.low_half
+      sealed-accepted f nwk app counter a.data_frame (payload_by (clear_of f nwk app counter) list) (payload_same list) a.low_half
 
   opened_is : (open_of f nwk app counter).refusal.number ≡ 0 → (open_of f nwk app counter).state ≡ opened_of f nwk app counter
   opened_is e = ap (λ (o : Opened). o.state) (accepted_opens f nwk app counter (opens_accepted f nwk app counter e))
@@ -150,22 +150,22 @@ module _ (f nwk app : List ℕ) (counter : ℕ) where
         frame = opened_stands g ag;
         long =
             opened_long g
-            ∙ sealed_long f nwk app counter a.data_frame_lem (payload_by (clear_of f nwk app counter) list) (payload_same list);
+            ∙ sealed_long f nwk app counter a.data_frame (payload_by (clear_of f nwk app counter) list) (payload_same list);
         opens =
             ap (λ (l : List ℕ). open_of l nwk app counter) (opened_stands g ag) ∙ accepted_opens g nwk app counter ag;
       }
 
   -- Demand 3, for every accepted opening and every list of amendments
-  pub demand_3_lem : (open_of f nwk app counter).refusal.number ≡ 0 → (list : List Amendment)
+  pub demand_3 : (open_of f nwk app counter).refusal.number ≡ 0 → (list : List Amendment)
       → Stands f nwk app counter list (amended_by (open_of f nwk app counter).state list)
-  demand_3_lem e list = subst (λ (s : Open). Stands f nwk app counter list s) (sym (state_after e list)) (after_stands e list)
+  demand_3 e list = subst (λ (s : Open). Stands f nwk app counter list s) (sym (state_after e list)) (after_stands e list)
 
   -- ---- which amendments are accepted, and two that change nothing more
 
   count_is : (open_of f nwk app counter).refusal.number ≡ 0 → payload_length_of (open_of f nwk app counter).state ≡ length (payload f)
   count_is e =
       ap payload_length_of (opened_is e)
-      ∙ payload_count f nwk app counter (opens_accepted f nwk app counter e).data_frame_lem
+      ∙ payload_count f nwk app counter (opens_accepted f nwk app counter e).data_frame
 
   -- 15 at or past the payload's length; so with no payload each amendment gets it
   pub outside_refused : (open_of f nwk app counter).refusal.number ≡ 0 → (k v : ℕ) → length (payload f) ≤ k

@@ -31,7 +31,7 @@ whole_stored f g e =
 module _ (f nwk app : List ℕ) (counter : ℕ) (es : List ℕ) (o : Opened) (eo : o ≡ open_of f nwk app counter) where
   -- an accepted frame has at most 255 bytes
   pub accepted_most : o.refusal.number ≡ 0 → length f ≤ 255
-  accepted_most z = (opens_accepted f nwk app counter (ap (λ (x : Opened). x.refusal.number) (sym eo) ∙ z)).data_frame_lem.most
+  accepted_most z = (opens_accepted f nwk app counter (ap (λ (x : Opened). x.refusal.number) (sym eo) ∙ z)).data_frame.most
 
   outcome : amend_frame_of f nwk app counter es
       ≡ pick (eqb o.refusal.number 0)
@@ -63,9 +63,9 @@ module _ (f nwk app : List ℕ) (counter : ℕ) (es : List ℕ) (o : Opened) (eo
         o.refusal)
         (ne_eqb o.refusal.number 0 n))
 
-    pub refused_opening_lem : (o.refusal ≡ amend_frame_of f nwk app counter es)
+    pub refused_opening : (o.refusal ≡ amend_frame_of f nwk app counter es)
         × (f ≡ amended_frame f nwk app counter es)
-    refused_opening_lem = (
+    refused_opening = (
       opening_outcome,
       sym
           (left o.refusal.number (ap (λ (x : Refusal). x.number) (sym opening_outcome))
@@ -114,6 +114,6 @@ module _ (f nwk app : List ℕ) (counter : ℕ) (es : List ℕ) (o : Opened) (eo
       let law = whole_list z (record { refusal = not_refused; state = o.state }) (sym (list_none o.state es h)) refl in
       let kept : take (length f) o.state.frame ≡ f =
       ap (λ (x : Opened). take (length f) x.state.frame) opened
-      ∙ held-take f accepted.data_frame_lem.most (length f) (omega arith)
+      ∙ held-take f accepted.data_frame.most (length f) (omega arith)
       ∙ take_all (length f) f (omega arith) in
       (ap (λ (x : Opened). x.refusal) opened ∙ law.0, sym kept ∙ law.1)

@@ -72,7 +72,7 @@ module _ (f nwk app : List ℕ) (counter : ℕ) (h : IsData f) where
 
 module _ (f nwk app : List ℕ) (counter k v : ℕ) (a : Accepted f nwk counter) (inside : k < length (payload f)) where
   h : IsData f
-  h = a.data_frame_lem
+  h = a.data_frame
 
   abbrev key : List ℕ
   key = frame_key f nwk app

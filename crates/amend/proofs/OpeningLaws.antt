@@ -167,6 +167,6 @@ module _ (f nwk app : List ℕ) (counter : ℕ) where
   open_other h = not_data refused_opening (λ d. open_data f nwk app counter) (read_of f) h
 
 -- the counter that a reading holds is the frame's
-pub read_fcnt_lem : (f : List ℕ) {d : DataFrame} → read_of f ≡ Data d → d.fcnt ≡ fcnt f
+pub read_fcnt : (f : List ℕ) {d : DataFrame} → read_of f ≡ Data d → d.fcnt ≡ fcnt f
 unfolding data_of
-read_fcnt_lem f e = ap (λ (d : DataFrame). d.fcnt) (data_fields f e)
+read_fcnt f e = ap (λ (d : DataFrame). d.fcnt) (data_fields f e)

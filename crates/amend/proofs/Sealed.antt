@@ -46,10 +46,10 @@ accepted-sealed f nwk app counter a =
     let key = frame_key f nwk app in
     let body : header f ++ crypted key (header f) counter (clear_of f nwk app counter) ≡ covered f =
     ap (λ (l : List ℕ). header f ++ l) (crypted_twice key (header f) counter (payload f))
-    ∙ covered_parts f a.data_frame_lem in
+    ∙ covered_parts f a.data_frame in
     sealed_by f nwk app counter (clear_of f nwk app counter) (clear_long f nwk app counter)
     ∙ ap (λ (l : List ℕ). l ++ data_mic_of nwk l counter) body
-    ∙ ap₂ (λ (l m : List ℕ). l ++ m) (sym (covered_parts f a.data_frame_lem)) a.signed
+    ∙ ap₂ (λ (l m : List ℕ). l ++ m) (sym (covered_parts f a.data_frame)) a.signed
     ∙ append_assoc (header f) (payload f) (mic_of_of f)
     ∙ parts f
 
@@ -155,7 +155,7 @@ module _ (f nwk app : List ℕ) (counter : ℕ) (h : IsData f) (p : List ℕ) (s
   pub sealed-accepted : counter % 65536 ≡ fcnt f → Accepted (sealed nwk app counter (header f) p) nwk counter
   sealed-accepted e =
       record {
-        data_frame_lem = sealed_data;
+        data_frame = sealed_data;
         low_half = e ∙ sym (ap₂ (λ (l u : ℕ). l + u * 256) at_6 at_7);
         signed = ap (λ (l : List ℕ). data_mic_of nwk l counter) sealed-covered ∙ sym sealed-mic;
       }

@@ -1,5 +1,5 @@
 -- An open frame and what an amendment makes of it, for every state, also one that no call made (docs/RULES.md, Amendments).
--- `chained`, `signed_from`, `carried` and `resigned` model the code; `demand_3_lem` in proofs/Demand3.antt ties them to sealing
+-- `chained`, `signed_from`, `carried` and `resigned` model the code; `demand_3` in proofs/Demand3.antt ties them to sealing
 -- afresh. The message of the MIC is B_0, one block, and then the frame up to its MIC, so that the frame's block
 -- i is the message's block i + 1; place i of the chain values is what stands ahead of the frame's block i.
 -- Assumes nothing.

@@ -25,7 +25,7 @@ use Rattle.amend.specs.OpenFrame.{open_of}
 use Rattle.amend.specs.AmendmentLists.{Amendment, amended_by, payload_by, clear_of, Stands}
 use Rattle.amend.specs.SignedOnce.{all_inside_of}
 use Rattle.amend.proofs.Accepted.{accepted_opens, opens_accepted}
-use Rattle.amend.proofs.Demand3.{demand_3_lem}
+use Rattle.amend.proofs.Demand3.{demand_3}
 use Rattle.amend.proofs.SignedOnce.{list_inside, list_outside}
 use Rattle.amend.proofs.Within.{amend_inside, amend_outside}
 use Rattle.amend_held.specs.HeldBuffer.{stored_open, loaded_open}
@@ -101,7 +101,7 @@ module _ (f nwk app : List ℕ) (counter : ℕ) (e : (open_of f nwk app counter)
   begins =
       let a = opens_accepted f nwk app counter e in
       subst (λ (s : Open). Holds s) (sym (ap (λ (o : Opened). o.state) (accepted_opens f nwk app counter a)))
-      (opened_holds f nwk app counter a.data_frame_lem.most below)
+      (opened_holds f nwk app counter a.data_frame.most below)
 
   opened : opened_into (open_of f nwk app counter) b ≡ stored_open s₀
   unfolding settled
@@ -117,7 +117,7 @@ module _ (f nwk app : List ℕ) (counter : ℕ) (e : (open_of f nwk app counter)
 
   -- demand 3 of it
   pub held_stands : Stands f nwk app counter list (loaded_open buffer)
-  held_stands = subst (λ (s : Open). Stands f nwk app counter list s) (sym held_state) (demand_3_lem f nwk app counter e list)
+  held_stands = subst (λ (s : Open). Stands f nwk app counter list s) (sym held_state) (demand_3 f nwk app counter e list)
 
   -- and of the frame that is taken out where there is room
   pub held_frame : (l : List ℕ) → length f ≤ length l

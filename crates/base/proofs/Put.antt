@@ -45,8 +45,8 @@ sets_more l i s n h =
     ∙ ap (λ (m : ℕ). set (sets l i (take n s)) (i + m) (at s n)) k)
 
 -- a list keeps its length
-pub put_length_lem : {l e : List ℕ} {i r : ℕ} {t : List ℕ} → Put l i t r e → length e ≡ length l
-put_length_lem {l} {e} {i} {r} {t} p = ap length p.list ∙ length-sets l i t
+pub put_length : {l e : List ℕ} {i r : ℕ} {t : List ℕ} → Put l i t r e → length e ≡ length l
+put_length {l} {e} {i} {r} {t} p = ap length p.list ∙ length-sets l i t
 
 -- from the start of a list: the string, then the rest as it was
 pub put_front : {l e : List ℕ} {r : ℕ} {t : List ℕ} → Put l 0 t r e → length t ≤ length l → e ≡ t ++ drop (length t) l

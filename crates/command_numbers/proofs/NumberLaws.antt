@@ -61,10 +61,10 @@ unfolding bits_of_number
 status_bits true id z u e = simp (eq-eqb id 6 e)
 status_bits false id z u e = let w : ◌≡◌ {A = ℕ} 0 1 = cc in let no : ⊥ = omega arith in absurd no
 
-pub other_bits_lem : (up : Bool) (id : ℕ) (z : ℤ) → (id ≡ 6 → ⊥) → unsigned_of_of z ≡ bits_of_number up id z
+pub other_bits : (up : Bool) (id : ℕ) (z : ℤ) → (id ≡ 6 → ⊥) → unsigned_of_of z ≡ bits_of_number up id z
 unfolding bits_of_number
-other_bits_lem true id z e = simp (ne_eqb id 6 e)
-other_bits_lem false id z e = refl
+other_bits true id z e = simp (ne_eqb id 6 e)
+other_bits false id z e = refl
 
 pub down_bits : (up : Bool) (id : ℕ) (z : ℤ) → up ≡ false → unsigned_of_of z ≡ bits_of_number up id z
 unfolding bits_of_number

@@ -32,7 +32,7 @@ reads_fault f type h = steps.by_type f h.not_1 h.not_12 h.not_2 ∙ steps.type_o
 reads_fault f join_length h = wrong_join f h.not_1 h.not_12 h.not_2 h.wrong
 reads_fault f header h =
     steps.by_type f h.not_1 h.not_12 h.not_2
-    ∙ steps.type_data f h.data_frame_lem h.not_3
+    ∙ steps.type_data f h.data_frame h.not_3
     ∙ steps.data_wrong f h.short
 
 pub reads_request : (f : List ℕ) → IsJoinRequest f → read_of f ≡ JoinRequest
@@ -108,7 +108,7 @@ module _ (f : List ℕ) (l : 12 ≤ length f) (m : length f ≤ 255) (v : major 
       (λ h.
       let g : IsData f = record { least = l; most = m; version = v; from = t; below = u; fits = h } in
       given f (Data (data_of f)) (reads_data f g) (g, refl))
-      (λ h. faulty f header (record { not_12 = m; not_1 = l; not_2 = v; not_3 = u; data_frame_lem = t; short = h }))
+      (λ h. faulty f header (record { not_12 = m; not_1 = l; not_2 = v; not_3 = u; data_frame = t; short = h }))
 
   answer_type : Says f (read_of f)
   answer_type =

@@ -64,7 +64,7 @@ pub record Gives4Header (f : List ℕ) : Type 0 where
   pub not_1 : 12 ≤ length f
   pub not_2 : major f ≡ 0
   pub not_3 : mtype f < 6
-  pub data_frame_lem : 2 ≤ mtype f
+  pub data_frame : 2 ≤ mtype f
   pub short : length f < 5 + fhdr_length_of f
 
 -- the fault is the one that is found in f

@@ -29,9 +29,9 @@ by_bytes F a b c l m n p q r = λ i. F (tab-at a l p i) (tab-at b m q i) (tab-at
 
 -- ---- join-request
 
-pub request_parts_lem : (j : JoinRequestParts) → (0 ∷ []) ++ j.app_eui ++ j.dev_eui ++ j.dev_nonce ≡ join_request_body j
+pub request_parts : (j : JoinRequestParts) → (0 ∷ []) ++ j.app_eui ++ j.dev_eui ++ j.dev_nonce ≡ join_request_body j
 unfolding join_request_body
-request_parts_lem j = refl
+request_parts j = refl
 
 module _ (j : JoinRequestParts) (ha : length j.app_eui ≡ 8) (hd : length j.dev_eui ≡ 8) (hn : length j.dev_nonce ≡ 2) where
   pub request_written : join_request_body j ≡ 0 ∷ tab 8 (at j.app_eui) ++ tab 8 (at j.dev_eui) ++ tab 2 (at j.dev_nonce)
@@ -148,12 +148,12 @@ seven e = omega arith
 
 -- ---- clear bytes are bytes
 
-list_byte_lem : (channels : List ℕ) → AreBytes (cf_list_bytes_of channels)
+list_byte : (channels : List ℕ) → AreBytes (cf_list_bytes_of channels)
 unfolding cf_list_bytes_of
-list_byte_lem channels = each (cf_list_bytes_of channels) (omega arith)
+list_byte channels = each (cf_list_bytes_of channels) (omega arith)
 
 flag_byte : (b : Bool) (channels : List ℕ) → AreBytes (pick b (cf_list_bytes_of channels) [])
-flag_byte true channels = list_byte_lem channels
+flag_byte true channels = list_byte channels
 flag_byte false channels = bytes_nil
 
 pub accept_byte : (j : JoinAcceptParts) (channels : List ℕ) → AreBytes j.app_nonce → AreBytes j.net_id

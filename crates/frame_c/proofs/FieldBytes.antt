@@ -8,7 +8,7 @@ use native.Mathlib.Omega.{arith}
 use lib.ListN.{length, length-append}
 use Rattle.base.specs.Bytes.{at, four_bytes_of}
 use Rattle.base.specs.Storing.{Put, Stored}
-use Rattle.base.proofs.Put.{then, renamed, put_length_lem}
+use Rattle.base.proofs.Put.{then, renamed, put_length}
 use Rattle.base.proofs.StoringLaws.{fitted}
 use Rattle.frame.specs.declared.join_fields.JoinRequestFields.{JoinRequestFields}
 use Rattle.frame.specs.declared.join_fields.JoinAcceptFields.{JoinAcceptFields}
@@ -34,7 +34,7 @@ pub four_more : (n : ℕ) (q : List ℕ) {l d e b : List ℕ} {i j r : ℕ} → 
     → i + 4 * n + 4 ≤ length l → Put l i (four_each (n + 1) q) r e
 unfolding four_each
 four_more n q {l} {d} {e} {b} {i} {j} {r} p s h room =
-    let fits : j + length b ≤ length d = omega (arith, p.next, put_length_lem p, four_each_long n q, ap length h) in
+    let fits : j + length b ≤ length d = omega (arith, p.next, put_length p, four_each_long n q, ap length h) in
     renamed (then p (fitted s fits)) (ap (λ (x : List ℕ). four_each n q ++ x) h ∙ sym (ap (λ (m : ℕ). four_each m q) (add-one n)))
 
 -- all of them

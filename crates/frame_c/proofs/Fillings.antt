@@ -11,8 +11,8 @@ use Rattle.frame_c.specs.CStored.{KeysInto, RequestInto, AcceptInto}
 pub keys_into : {k s : SessionKeys} {l e : List ℕ} {r : ℕ} → k ≡ s → KeysInto k l r e → KeysInto s l r e
 keys_into {l = l} {e} {r} q h = subst (λ (s : SessionKeys). KeysInto s l r e) q h
 
-pub request_into_lem : {j k : JoinRequestFields} {l e : List ℕ} {r : ℕ} → j ≡ k → RequestInto j l r e → RequestInto k l r e
-request_into_lem {l = l} {e} {r} q h = subst (λ (k : JoinRequestFields). RequestInto k l r e) q h
+pub request_into : {j k : JoinRequestFields} {l e : List ℕ} {r : ℕ} → j ≡ k → RequestInto j l r e → RequestInto k l r e
+request_into {l = l} {e} {r} q h = subst (λ (k : JoinRequestFields). RequestInto k l r e) q h
 
-pub accept_into_lem : {j k : JoinAcceptFields} {l e : List ℕ} {r : ℕ} → j ≡ k → AcceptInto j l r e → AcceptInto k l r e
-accept_into_lem {l = l} {e} {r} q h = subst (λ (k : JoinAcceptFields). AcceptInto k l r e) q h
+pub accept_into : {j k : JoinAcceptFields} {l e : List ℕ} {r : ℕ} → j ≡ k → AcceptInto j l r e → AcceptInto k l r e
+accept_into {l = l} {e} {r} q h = subst (λ (k : JoinAcceptFields). AcceptInto k l r e) q h

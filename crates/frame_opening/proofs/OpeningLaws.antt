@@ -41,16 +41,16 @@ module _ {A : Type 0} (b : Bool) (x y : A) where
 -- ---- the reading that a call needs: what it answers at another, what at this, and what this says of the frame
 
 module _ {A : Type 0} (e : Refusal → A) (f : List ℕ) (r : Reading) (q : r ≡ read_of f) where
-  pub no_request_lem : (x : A) → OneOf (1 ∷ 2 ∷ 3 ∷ []) (tag_of R.the_type r)
+  pub no_request : (x : A) → OneOf (1 ∷ 2 ∷ 3 ∷ []) (tag_of R.the_type r)
       → e (other_refusal_of r) ≡ on_request x e (read_of f)
-  no_request_lem x h = sym (not_request e x r h) ∙ ap (on_request x e) q
+  no_request x h = sym (not_request e x r h) ∙ ap (on_request x e) q
 
   pub a_request : (x : A) → r ≡ JoinRequest → x ≡ on_request x e (read_of f)
   a_request x p = ap (on_request x e) (sym p ∙ q)
 
-  pub no_accept_lem : (x : ℕ → A) → OneOf (0 ∷ 2 ∷ 3 ∷ []) (tag_of R.the_type r)
+  pub no_accept : (x : ℕ → A) → OneOf (0 ∷ 2 ∷ 3 ∷ []) (tag_of R.the_type r)
       → e (other_refusal_of r) ≡ on_accept x e (read_of f)
-  no_accept_lem x h = sym (not_accept e x r h) ∙ ap (on_accept x e) q
+  no_accept x h = sym (not_accept e x r h) ∙ ap (on_accept x e) q
 
   pub a_accept : (x : ℕ → A) {n : ℕ} → r ≡ JoinAccept n → x n ≡ on_accept x e (read_of f)
   a_accept x p = ap (on_accept x e) (sym p ∙ q)
@@ -71,8 +71,8 @@ module _ (f : List ℕ) where
       let h = accept_read f q in
       ⊎_elim (λ k. omega (arith, h.long)) (λ k. omega (arith, h.long)) h.either
 
-  pub data_length_lem : {d : DataFrame} → read_of f ≡ Data d → 12 ≤ length f
-  data_length_lem q = (data_read f q).least
+  pub data_length : {d : DataFrame} → read_of f ≡ Data d → 12 ≤ length f
+  data_length q = (data_read f q).least
 
 -- ---- the MIC
 
@@ -94,9 +94,9 @@ module _ (f : List ℕ) (d : DataFrame) (q : d ≡ data_of f) where
   unfolding data_of
   fopts_place = ap (λ (r : DataFrame). r.fopts_end) q
 
-  pub mic_place_lem : d.mic ≡ payload_end_of f
+  pub mic_place : d.mic ≡ payload_end_of f
   unfolding data_of
-  mic_place_lem = ap (λ (r : DataFrame). r.mic) q
+  mic_place = ap (λ (r : DataFrame). r.mic) q
 
   count : d.fcnt ≡ fcnt f
   unfolding data_of
@@ -104,7 +104,7 @@ module _ (f : List ℕ) (d : DataFrame) (q : d ≡ data_of f) where
 
   -- the places of the payload
   pub start_place : (start : ℕ) → start ≡ min (d.fopts_end + 1) d.mic → start ≡ header_end_of f
-  start_place start e = omega (arith, fopts_place, mic_place_lem)
+  start_place start e = omega (arith, fopts_place, mic_place)
 
 -- a payload decrypted in place
 pub decrypted_in_place : (key f : List ℕ) (counter : ℕ) (d : DataFrame) → IsData f → d ≡ data_of f
@@ -113,7 +113,7 @@ pub decrypted_in_place : (key f : List ℕ) (counter : ℕ) (d : DataFrame) → 
 unfolding decrypted
 decrypted_in_place key f counter d h q start hs whole hw =
     let p = placed f h in
-    ap₂ (λ (a b : ℕ). crypted_in key f whole a b) (start_place f d q start hs) (mic_place_lem f d q)
+    ap₂ (λ (a b : ℕ). crypted_in key f whole a b) (start_place f d q start hs) (mic_place f d q)
     ∙ crypted_inside key f whole (header_end_of f) (payload_end_of f) p.payload (omega (arith, p.mic))
     ∙ ap (λ (n : ℕ). crypted_part key f n (header_end_of f) (payload_end_of f)) (hw ∙ ap (full_counter_of counter) (count f d q))
 
@@ -121,5 +121,5 @@ decrypted_in_place key f counter d h q start hs whole hw =
 pub chosen : (f : List ℕ) (d : DataFrame) → d ≡ data_of f → (start : ℕ) → start ≡ min (d.fopts_end + 1) d.mic
     → by_network_key_of (take start f) (d.mic - start) ≡ by_network_key_of (header f) (length (payload f))
 chosen f d q start hs =
-    ap₂ (λ (a b : ℕ). by_network_key_of (take a f) (b - a)) (start_place f d q start hs) (mic_place_lem f d q)
+    ap₂ (λ (a b : ℕ). by_network_key_of (take a f) (b - a)) (start_place f d q start hs) (mic_place f d q)
     ∙ ap (by_network_key_of (header f)) (sym (length-payload f))

@@ -16,6 +16,6 @@ pub mic_long : (key m : List ℕ) → length (mic key m) ≡ 4
 unfolding mic
 mic_long key m = length-take-le 4 (mac key m) (omega (arith, mac_long key m))
 
-pub mic_byte_lem : (key m : List ℕ) → AreBytes key → AreBytes m → AreBytes (mic key m)
+pub mic_byte : (key m : List ℕ) → AreBytes key → AreBytes m → AreBytes (mic key m)
 unfolding mic
-mic_byte_lem key m hk hm = bytes_take 4 (mac key m) (mac_byte key m hk hm)
+mic_byte key m hk hm = bytes_take 4 (mac key m) (mac_byte key m hk hm)

@@ -114,8 +114,8 @@ module _ (nwk app : List ℕ) (counter start end : ℕ) (l : List ℕ) where
   unfolding sealed_in
   seal_no_room h k r = simp (le-leb 8 start h, le-leb start end k, lt-leb (end + 4) (length l) r)
 
-  pub seal_inside_lem : 8 ≤ start → start ≤ end → end + 4 ≤ length l
+  pub seal_inside : 8 ≤ start → start ≤ end → end + 4 ≤ length l
       → sealed_in nwk app counter start end l
       ≡ sealed nwk app counter (take start l) (part start (end - start) l) ++ drop (end + 4) l
   unfolding sealed_in
-  seal_inside_lem h k r = simp (le-leb 8 start h, le-leb start end k, le-leb (end + 4) (length l) r)
+  seal_inside h k r = simp (le-leb 8 start h, le-leb start end k, le-leb (end + 4) (length l) r)

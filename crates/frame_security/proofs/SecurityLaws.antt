@@ -21,7 +21,7 @@ use Rattle.cmac.specs.Rfc4493.{mac}
 use Rattle.frame.specs.Layout.{fport}
 use Rattle.cmac.specs.Running.{started, absorbed, absorbed_all, joined, finished}
 use Rattle.cmac.proofs.CmacLaws.{mac_cutting}
-use Rattle.frame_security.proofs.MicLaws.{mic_long, mic_byte_lem}
+use Rattle.frame_security.proofs.MicLaws.{mic_long, mic_byte}
 use Rattle.frame_security.specs.Security.{start_of, helper_block_of, stream_block_of, stream_at, crypted, crypted_part, crypted_in, by_network_key_of, payload_key_of, mic_block_of, message, data_mic_of, join_mic}
 
 -- ---- the helper block
@@ -219,4 +219,4 @@ join_mic_long key msg = mic_long key msg
 
 pub join_mic_byte : (key msg : List ℕ) → AreBytes key → AreBytes msg → AreBytes (join_mic key msg)
 unfolding join_mic
-join_mic_byte key msg hk hm = mic_byte_lem key msg hk hm
+join_mic_byte key msg hk hm = mic_byte key msg hk hm

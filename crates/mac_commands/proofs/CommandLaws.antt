@@ -18,7 +18,7 @@ use Rattle.mac_commands.specs.Layout.{fits, field_at, fields_of, number_of, coun
 use Rattle.mac_commands.specs.Commands.{raw_of_of, commands, command_of_of, fields_as, row_at, values_of_of, up_of, id_of, fits_all}
 use Rattle.mac_commands.specs.declared.maccommands.Command.{Command}
 use Rattle.mac_commands.specs.declared.maccommands.Command.TheVariants.{LinkCheckAns, LinkADRReq, DutyCycleReq, RXParamSetupReq, DevStatusReq, NewChannelReq, RXTimingSetupReq, TxParamSetupReq, DlChannelReq, LinkCheckReq, LinkADRAns, DutyCycleAns, RXParamSetupAns, DevStatusAns, NewChannelAns, RXTimingSetupAns, TxParamSetupAns, DlChannelAns}
-use Rattle.mac_commands.proofs.LayoutLaws.{named, named_below, each_fits, field_number_lem, lacking}
+use Rattle.mac_commands.proofs.LayoutLaws.{named, named_below, each_fits, field_number, lacking}
 use Rattle.mac_commands.proofs.MarginLaws.{raw_margin, margin_raw}
 use Rattle.mac_commands.proofs.TableLaws.{Every, every, row_named, row_within}
 
@@ -114,7 +114,7 @@ fields_back c h =
     same_at 5 (fields_of (row (row_at c)) v) (values_of_of c) (length-tab 5 (field_at (row (row_at c)) v)) (shaped c).long
     (λ k l.
     at-tab 5 (field_at (row (row_at c)) v) k l
-    ∙ by_bool (named (row (row_at c)) k) (λ t. field_number_lem (row (row_at c)) (values_of_of c) k h t)
+    ∙ by_bool (named (row (row_at c)) k) (λ t. field_number (row (row_at c)) (values_of_of c) k h t)
     (λ t. lacking (row (row_at c)) v k t ∙ sym (past_last c k (unnamed (row_at c) k (shaped c).known t))))
 
 -- ---- the values of the command that a row and a number give are the fields of the number

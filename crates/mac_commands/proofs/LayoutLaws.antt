@@ -157,11 +157,11 @@ fits_each (spare w ∷ ps) xs d h = fits_each ps xs d h
 
 -- ---- what is written is read
 
-pub field_number_lem : (ps : List Piece) (xs : List ℕ) (k : ℕ) → fits ps xs ≡ true → named ps k ≡ true
+pub field_number : (ps : List Piece) (xs : List ℕ) (k : ℕ) → fits ps xs ≡ true → named ps k ≡ true
     → field_at ps (number_of ps xs) k ≡ at xs k
 unfolding named number_of fits
-field_number_lem [] xs k h n = let z : ◌≡◌ {A = ℕ} 0 1 = cc in absurd (omega arith)
-field_number_lem (field j w ∷ ps) xs k h n =
+field_number [] xs k h n = let z : ◌≡◌ {A = ℕ} 0 1 = cc in absurd (omega arith)
+field_number (field j w ∷ ps) xs k h n =
     let r : ℕ = number_of ps xs in
     by_bool (eqb j k)
     (λ t.
@@ -173,11 +173,11 @@ field_number_lem (field j w ∷ ps) xs k h n =
     (λ t.
     later j w ps (at xs j + 2 ^ w * r) k t
     ∙ ap (λ (v : ℕ). field_at ps v k) (high w (at xs j) r (first_fits j w ps xs h))
-    ∙ field_number_lem ps xs k (rest_fits j w ps xs h) (sym (ap (λ (b : Bool). pick b true (named ps k)) t) ∙ n))
-field_number_lem (spare w ∷ ps) xs k h n =
+    ∙ field_number ps xs k (rest_fits j w ps xs h) (sym (ap (λ (b : Bool). pick b true (named ps k)) t) ∙ n))
+field_number (spare w ∷ ps) xs k h n =
     over_spare w ps (2 ^ w * number_of ps xs) k
     ∙ ap (λ (v : ℕ). field_at ps v k) (mul-div_cancel_left (number_of ps xs) (pow_pos w))
-    ∙ field_number_lem ps xs k h n
+    ∙ field_number ps xs k h n
 
 -- a field that a layout lacks is read as 0
 pub lacking : (ps : List Piece) (v k : ℕ) → named ps k ≡ false → field_at ps v k ≡ 0

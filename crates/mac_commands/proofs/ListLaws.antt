@@ -22,7 +22,7 @@ use Rattle.mac_commands.specs.declared.maccommands.Step.TheVariants.{Found, End,
 use Rattle.mac_commands.specs.declared.maccommandcreator.Written.{Written}
 use Rattle.mac_commands.specs.declared.maccommandcreator.Written.TheVariants.{Upto}
 use Rattle.mac_commands.proofs.StepLaws.{ended}
-use Rattle.mac_commands.proofs.ReadBack.{bytes_count, reads_back, ReadAs, read_as_lem, same_length, read_fits, number_behind, writes_back}
+use Rattle.mac_commands.proofs.ReadBack.{bytes_count, reads_back, ReadAs, read_as, same_length, read_fits, number_behind, writes_back}
 
 -- ---- a list is a step and then the list from the next place
 
@@ -48,7 +48,7 @@ enough up s (suc k) zero i a b = on_end i (step_at up s i) (list_from k up s) (e
 enough up s (suc k) (suc m) i a b =
     on_same i (step_at up s i) (list_from k up s) (list_from m up s)
     (λ c n e.
-    let f : n ≡ i + 1 + size_of (row_of up (at s i)) = (read_as_lem up s i c n e).next in
+    let f : n ≡ i + 1 + size_of (row_of up (at s i)) = (read_as up s i c n e).next in
     enough up s k m n (omega arith) (omega arith))
 
 pub list_step : (up : Bool) (s : List ℕ) (i : ℕ) → list_at up s i ≡ on_step i (step_at up s i) (list_at up s)
@@ -79,7 +79,7 @@ take_from up s zero i h = at_end (ended up s i (omega arith))
 take_from up s (suc k) i h =
     on_taken up s i (step_at up s i) (list_from k up s) refl
     (λ c n e.
-    let f : n ≡ i + 1 + size_of (row_of up (at s i)) = (read_as_lem up s i c n e).next in
+    let f : n ≡ i + 1 + size_of (row_of up (at s i)) = (read_as up s i c n e).next in
     take_from up s k n (omega arith))
 
 pub take_all : (up : Bool) (s : List ℕ) (i : ℕ) → Taken up s i (list_at up s i)
@@ -162,7 +162,7 @@ pub list_writes_back : {up : Bool} {s : List ℕ} {i : ℕ} {cs : List Command} 
 unfolding bytes_all
 list_writes_back {up} {s} {i} b (none_left e) = sym (ap (λ (k : ℕ). drop k s) e ∙ drop-length s)
 list_writes_back {up} {s} {i} b (clear_one {n = n} {c = c} e z k) =
-    let a : ReadAs up s i c n = read_as_lem up s i c n e in
+    let a : ReadAs up s i c n = read_as up s i c n e in
     let m : ℕ = 1 + size_of (row_of up (at s i)) in
     let next : n ≡ i + (1 + size_of (row_of up (at s i))) = a.next ∙ omega arith in
     ap₂ (λ (x y : List ℕ). x ++ y) (writes_back a b z) (list_writes_back b k ∙ ap (λ (j : ℕ). drop j s) next ∙ sym (drop-drop m i s))

@@ -87,8 +87,8 @@ no_end x c n e f = let z : ◌≡◌ {A = ℕ} 0 1 = cc in let no : ⊥ = omega 
 no_refusal : {A : Type 0} (x : Step) (c : Command) (n : ℕ) (r : Refusal) → x ≡ Found c n → x ≡ Refused r → A
 no_refusal x c n r e f = let z : ◌≡◌ {A = ℕ} 0 1 = cc in let no : ⊥ = omega arith in absurd no
 
-pub read_as_lem : (up : Bool) (s : List ℕ) (i : ℕ) (c : Command) (n : ℕ) → step_at up s i ≡ Found c n → ReadAs up s i c n
-read_as_lem up s i c n e =
+pub read_as : (up : Bool) (s : List ℕ) (i : ℕ) (c : Command) (n : ℕ) → step_at up s i ≡ Found c n → ReadAs up s i c n
+read_as up s i c n e =
     by_order (length s) i (λ h. no_end (step_at up s i) c n e (ended up s i h))
     (λ h.
     by_bool (known (at s i))
@@ -109,8 +109,8 @@ module _ {up : Bool} {s : List ℕ} {i : ℕ} {c : Command} {n : ℕ} (a : ReadA
   below : row_of up (at s i) < 18
   below = row_below up (at s i) (known_upto (at s i) a.in_family)
 
-  pub read_row_lem : row_at c ≡ row_of up (at s i)
-  read_row_lem = ap row_at a.command ∙ row_back (row_of up (at s i)) _ below
+  pub read_row : row_at c ≡ row_of up (at s i)
+  read_row = ap row_at a.command ∙ row_back (row_of up (at s i)) _ below
 
   -- its values are the fields of the number
   read_values : values_of_of c ≡ fields_of (row (row_of up (at s i))) (number_behind up s i)
@@ -118,12 +118,12 @@ module _ {up : Bool} {s : List ℕ} {i : ℕ} {c : Command} {n : ℕ} (a : ReadA
 
   -- one statement on lengths, for each direction and identifier: reading skips what writing writes
   pub same_length : n ≡ i + length (bytes_as c)
-  same_length = a.next ∙ omega (arith, bytes_count c, ap size_of read_row_lem)
+  same_length = a.next ∙ omega (arith, bytes_count c, ap size_of read_row)
 
   -- what was read can be written
   pub read_fits : fits_all c ≡ true
   read_fits =
-      ap₂ (λ (r : ℕ) (x : List ℕ). fits (row r) x) read_row_lem read_values
+      ap₂ (λ (r : ℕ) (x : List ℕ). fits (row r) x) read_row read_values
       ∙ fields_fit (row_of up (at s i)) (number_behind up s i) below
 
   -- where the reserved bits were 0, what is written is what was read
@@ -133,7 +133,7 @@ module _ {up : Bool} {s : List ℕ} {i : ℕ} {c : Command} {n : ℕ} (a : ReadA
   writes_back b z =
       let long : length (part (i + 1) (size_of (row_of up (at s i))) s) ≡ size_of (row_of up (at s i)) =
       length_part (i + 1) (size_of (row_of up (at s i))) s a.room in
-      ap (λ (r : ℕ). row_bytes r (number_of (row r) (values_of_of c))) read_row_lem
+      ap (λ (r : ℕ). row_bytes r (number_of (row r) (values_of_of c))) read_row
       ∙ ap (row_bytes (row_of up (at s i)))
       (number_back (row (row_of up (at s i))) (number_behind up s i) (values_of_of c) (row_distinct (row_of up (at s i)) below)
       (λ k t. ap (λ (x : List ℕ). at x k) read_values ∙ at-tab 5 (field_at (row (row_of up (at s i))) (number_behind up s i)) k (few k t)) z)

@@ -45,9 +45,9 @@ pub record Fields (f : List ℕ) (d : DataFrame) : Type 0 where
   pub spans : Spans d.payload
   pub mic-at : d.mic ≡ length f - 4
 
-fields_of_lem : (f : List ℕ) → AreBytes f → IsData f → Fields f (data_of f)
+fields_of : (f : List ℕ) → AreBytes f → IsData f → Fields f (data_of f)
 unfolding data_of
-fields_of_lem f b h =
+fields_of f b h =
     record {
       type_small = omega (arith, h.below);
       fcnt_small = omega (arith, b 6, b 7);
@@ -59,7 +59,7 @@ fields_of_lem f b h =
     }
 
 pub fields : (f : List ℕ) (d : DataFrame) → AreBytes f → IsData f → d ≡ data_of f → Fields f d
-fields f d b h e = subst (λ (x : DataFrame). Fields f x) (sym e) (fields_of_lem f b h)
+fields f d b h e = subst (λ (x : DataFrame). Fields f x) (sym e) (fields_of f b h)
 
 -- the bytes from the MIC's place on
 pub mic-part : (f : List ℕ) (m : ℕ) → m ≡ length f - 4 → take (length f - m) (drop m f) ≡ mic_of_of f

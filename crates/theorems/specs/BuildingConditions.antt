@@ -61,7 +61,7 @@ WrongList listed channels = (listed ≡ true) × WrongChannels channels
 -- 7: fewer than 17 bytes of output without a list, fewer than 33 with one
 pub data NoRoom (listed : Bool) (room : ℕ) : Type 0 where
   bare : listed ≡ false → room < 17 → NoRoom listed room
-  with_list_lem : listed ≡ true → room < 33 → NoRoom listed room
+  with_list : listed ≡ true → room < 33 → NoRoom listed room
 
 abbrev pub accept_conditions : JoinAcceptParts → List ℕ → ℕ → List Condition
 accept_conditions j channels room =

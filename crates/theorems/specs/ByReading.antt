@@ -12,15 +12,15 @@ use Rattle.theorems.specs.Exactly.{Exactly, Condition, Due, NotOwn}
 
 -- the frame that a call needs
 pub data Needs : Type 0 where
-  join_request_lem : Needs
-  join_accept_lem : Needs
-  data_frame_lem : Needs
+  join_request : Needs
+  join_accept : Needs
+  data_frame : Needs
 
 -- f is one
 abbrev pub Is : Needs → List ℕ → Type 0
-Is join_request_lem f = IsJoinRequest f
-Is join_accept_lem f = IsJoinAccept f (length f)
-Is data_frame_lem f = IsData f
+Is join_request f = IsJoinRequest f
+Is join_accept f = IsJoinAccept f (length f)
+Is data_frame f = IsData f
 
 -- reading gives the refusal r
 pub data ByReading (k : Needs) (f : List ℕ) (r : Refusal) : Type 0 where

@@ -36,4 +36,4 @@ pub record CommandsBack (nwk app : List ℕ) (d : DataParts) (cs : List Command)
   pub in_fopts_lem : NotPort0 d.port → Holds f cs false []
   pub in_fopts_opened : NotPort0 d.port → Holds (opened_frame nwk app d.fcnt f) cs false []
   -- on port 0 they are the payload of the opened frame, also where there are none
-  pub on_port_0_lem : d.port ≡ Port 0 → Holds (opened_frame nwk app d.fcnt f) [] true cs
+  pub on_port_0 : d.port ≡ Port 0 → Holds (opened_frame nwk app d.fcnt f) [] true cs

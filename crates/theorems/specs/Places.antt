@@ -43,84 +43,84 @@ pub data Reads (f : List ℕ) : Type 0 where
   read : Reads f
   view : Reads f
   -- the fields of join messages, and session keys; from C into so many bytes
-  request_fields_lem : Reads f
-  accept_fields_lem : Reads f
-  session_keys_lem : (key dev_nonce_of : List ℕ) → Reads f
+  request_fields : Reads f
+  accept_fields : Reads f
+  session_keys : (key dev_nonce_of : List ℕ) → Reads f
   request_stored : (room : ℕ) → Reads f
   accept_stored : (room : ℕ) → Reads f
   keys_stored : (key dev_nonce_of : List ℕ) (room : ℕ) → Reads f
   -- MIC tests
   request_mic : (key : List ℕ) → Reads f
   accept_mic : (key : List ℕ) → Reads f
-  data_mic_lem : (key : List ℕ) (counter : ℕ) → Reads f
+  data_mic : (key : List ℕ) (counter : ℕ) → Reads f
   -- openings, plain and checked
-  decrypt_data_lem : (nwk app : MaybeKey) (counter : ℕ) → Reads f
-  decrypt_data_checked_lem : (nwk : List ℕ) (app : MaybeKey) (counter : ℕ) → Reads f
-  decrypt_accept_lem : (key : List ℕ) → Reads f
-  decrypt_accept_checked_lem : (key : List ℕ) → Reads f
+  decrypt_data : (nwk app : MaybeKey) (counter : ℕ) → Reads f
+  decrypt_data_checked : (nwk : List ℕ) (app : MaybeKey) (counter : ℕ) → Reads f
+  decrypt_accept : (key : List ℕ) → Reads f
+  decrypt_accept_checked : (key : List ℕ) → Reads f
   -- opening for amendments, also into a buffer that holds it, and the call on a lent frame
-  open_frame_lem : (nwk app : List ℕ) (counter : ℕ) → Reads f
-  amend_frame_lem : (nwk app : List ℕ) (counter : ℕ) (list : List ℕ) → Reads f
+  open_frame : (nwk app : List ℕ) (counter : ℕ) → Reads f
+  amend_frame : (nwk app : List ℕ) (counter : ℕ) (list : List ℕ) → Reads f
   -- where its MAC commands lie
-  command_lists_lem : Reads f
+  command_lists : Reads f
 
 -- the refusal that the call answers, none where it does what it is to
 abbrev pub reads_refusal : (f : List ℕ) → Reads f → Refusal
 reads_refusal f read = refusal (number_of (read_of f)) (place_of (read_of f))
 reads_refusal f view = refusal (values_of_of (read_of f)).number (values_of_of (read_of f)).place
-reads_refusal f request_fields_lem = (join_request_fields_of f).refusal
-reads_refusal f accept_fields_lem = (join_accept_fields_of f).refusal
-reads_refusal f (session_keys_lem key dev_nonce_of) = (session_keys_of key dev_nonce_of f).refusal
+reads_refusal f request_fields = (join_request_fields_of f).refusal
+reads_refusal f accept_fields = (join_accept_fields_of f).refusal
+reads_refusal f (session_keys key dev_nonce_of) = (session_keys_of key dev_nonce_of f).refusal
 reads_refusal f (request_stored room) = stored_refusal (join_request_fields_of f).refusal 22 room
 reads_refusal f (accept_stored room) = stored_refusal (join_accept_fields_of f).refusal 42 room
 reads_refusal f (keys_stored key dev_nonce_of room) = stored_refusal (session_keys_of key dev_nonce_of f).refusal 32 room
 reads_refusal f (request_mic key) = test_refusal (join_request_test key f)
 reads_refusal f (accept_mic key) = test_refusal (join_accept_test key f)
-reads_refusal f (data_mic_lem key counter) = test_refusal (data_test_of key counter f)
-reads_refusal f (decrypt_data_lem nwk app counter) = opening_refusal (data_opened nwk app counter f).answer
-reads_refusal f (decrypt_data_checked_lem nwk app counter) = opening_refusal (data_opened_checked nwk app counter f).answer
-reads_refusal f (decrypt_accept_lem key) = opening_refusal (accept_opened key f).answer
-reads_refusal f (decrypt_accept_checked_lem key) = opening_refusal (accept_opened_checked key f).answer
-reads_refusal f (open_frame_lem nwk app counter) = (open_of f nwk app counter).refusal
-reads_refusal f (amend_frame_lem nwk app counter list) = amend_frame_of f nwk app counter list
-reads_refusal f command_lists_lem = lists_refusal (in_frame_of f)
+reads_refusal f (data_mic key counter) = test_refusal (data_test_of key counter f)
+reads_refusal f (decrypt_data nwk app counter) = opening_refusal (data_opened nwk app counter f).answer
+reads_refusal f (decrypt_data_checked nwk app counter) = opening_refusal (data_opened_checked nwk app counter f).answer
+reads_refusal f (decrypt_accept key) = opening_refusal (accept_opened key f).answer
+reads_refusal f (decrypt_accept_checked key) = opening_refusal (accept_opened_checked key f).answer
+reads_refusal f (open_frame nwk app counter) = (open_of f nwk app counter).refusal
+reads_refusal f (amend_frame nwk app counter list) = amend_frame_of f nwk app counter list
+reads_refusal f command_lists = lists_refusal (in_frame_of f)
 
 -- ---- calls that read no frame, or to which a frame that is refused is one more input
 
 pub data Others : Type 0 where
   -- amending what is open, and taking it out
   amend : (s : Open) (offset value : ℕ) → Others
-  amend_list_lem : (s : Open) (list : List ℕ) → Others
+  amend_list : (s : Open) (list : List ℕ) → Others
   take_out : (s : Open) (room : ℕ) → Others
   -- building, from C also by the number of a type
-  build_data_lem : (nwk app : List ℕ) (d : DataParts) (commands body : List ℕ) (room : ℕ) → Others
+  build_data : (nwk app : List ℕ) (d : DataParts) (commands body : List ℕ) (room : ℕ) → Others
   build_kind : (kind : ℕ) (nwk app : List ℕ) (d : DataParts) (commands body : List ℕ) (room : ℕ) → Others
   build_request : (key : List ℕ) (j : JoinRequestParts) (room : ℕ) → Others
   build_accept : (key : List ℕ) (j : JoinAcceptParts) (channels : List ℕ) (room : ℕ) → Others
   -- writing a MAC command, also by its identifier and values or by six numbers, into so many bytes from a place on
-  write_command_lem : (c : Command) (room place : ℕ) → Others
-  write_fields_lem : (up : Bool) (id : ℕ) (values : List ℕ) (room place : ℕ) → Others
-  write_numbers_lem : (up : Bool) (numbers : List ℤ) (room place : ℕ) → Others
+  write_command : (c : Command) (room place : ℕ) → Others
+  write_fields : (up : Bool) (id : ℕ) (values : List ℕ) (room place : ℕ) → Others
+  write_numbers : (up : Bool) (numbers : List ℤ) (room place : ℕ) → Others
   -- the text of a frame, and of an input of n bytes: what reading refuses is a text, with number and place
   describe : (f out : List ℕ) → Others
-  describe_input_lem : (start : List ℕ) (n : ℕ) (out : List ℕ) → Others
+  describe_input : (start : List ℕ) (n : ℕ) (out : List ℕ) → Others
 
 abbrev pub others_refusal : Others → Refusal
 others_refusal (amend s offset value) = (amend_of s offset value).refusal
-others_refusal (amend_list_lem s list) = (amend_list_of s list).refusal
+others_refusal (amend_list s list) = (amend_list_of s list).refusal
 others_refusal (take_out s room) = (taken_of s room).refusal
-others_refusal (build_data_lem nwk app d commands body room) =
+others_refusal (build_data nwk app d commands body room) =
     built_refusal (built_of (data_refusal_of d commands body room) (length (data_frame_of nwk app d commands body)))
 others_refusal (build_kind kind nwk app d commands body room) =
     built_refusal (built_of (data_refused kind d commands body room) (length (data_frame_of nwk app d commands body)))
 others_refusal (build_request key j room) = built_refusal (built_of (join_request_refusal room) (length (join_request_of key j)))
 others_refusal (build_accept key j channels room) =
     built_refusal (built_of (join_accept_refusal_of j channels room) (length (join_accept_of key j channels)))
-others_refusal (write_command_lem c room place) = written_refusal (command_written c room place)
-others_refusal (write_fields_lem up id values room place) = written_refusal (fields_written up id values room place)
-others_refusal (write_numbers_lem up numbers room place) = written_refusal (numbers_written up numbers room place)
+others_refusal (write_command c room place) = written_refusal (command_written c room place)
+others_refusal (write_fields up id values room place) = written_refusal (fields_written up id values room place)
+others_refusal (write_numbers up numbers room place) = written_refusal (numbers_written up numbers room place)
 others_refusal (describe f out) = (described_of (text_of f) out).refusal
-others_refusal (describe_input_lem start n out) = (described_of (text_of_input start n) out).refusal
+others_refusal (describe_input start n out) = (described_of (text_of_input start n) out).refusal
 
 -- ---- of every call
 

@@ -44,7 +44,7 @@ pub record DataBack (nwk app : List ℕ) (d : DataParts) (commands body f : List
   pub control : fctrl f / 16 ≡ d.fctrl / 16
   pub count : fcnt f ≡ d.fcnt % 65536
   -- FOpts lie from 8 on and end where reading says
-  pub fopts_end_lem : 1 + fhdr_length_of f ≡ 8 + length (fopts_of d.port commands)
+  pub fopts_end : 1 + fhdr_length_of f ≡ 8 + length (fopts_of d.port commands)
   pub fopts : part 8 (length (fopts_of d.port commands)) f ≡ fopts_of d.port commands
   -- the port, or none, as it was given, and what it says of the bytes behind it, also where there are none
   pub port : port_of_of f ≡ d.port

@@ -63,11 +63,11 @@ module _ (f : List ℕ) where
   unfolding payload_of port_of_of
   of_payload g = chosen g (has_port_of f) (fport f) (payload_start_of f) (payload_end_of f)
 
-  pub payload_start_lem : payload_from_of (payload_of f) ≡ pick (has_port_of f) (payload_start_of f) 0
-  payload_start_lem = of_payload payload_from_of ∙ ap (λ (n : ℕ). pick (has_port_of f) n 0) (same (eqb (fport f) 0) (payload_start_of f))
+  pub payload_start : payload_from_of (payload_of f) ≡ pick (has_port_of f) (payload_start_of f) 0
+  payload_start = of_payload payload_from_of ∙ ap (λ (n : ℕ). pick (has_port_of f) n 0) (same (eqb (fport f) 0) (payload_start_of f))
 
-  pub payload_end_lem : payload_to_of (payload_of f) ≡ pick (has_port_of f) (payload_end_of f) 0
-  payload_end_lem = of_payload payload_to_of ∙ ap (λ (n : ℕ). pick (has_port_of f) n 0) (same (eqb (fport f) 0) (payload_end_of f))
+  pub payload_end : payload_to_of (payload_of f) ≡ pick (has_port_of f) (payload_end_of f) 0
+  payload_end = of_payload payload_to_of ∙ ap (λ (n : ℕ). pick (has_port_of f) n 0) (same (eqb (fport f) 0) (payload_end_of f))
 
   pub port_is_given : port_given_of (port_of_of f) ≡ has_port_of f
   unfolding port_of_of
@@ -78,9 +78,9 @@ module _ (f : List ℕ) where
   port_is = by_bool (has_port_of f) (λ e. rw e) (λ e. rw e)
 
   -- the numbers of a data frame are those of the layout
-  pub data_values_lem : data_values_of (data_of f) ≡ layout_values f
+  pub data_values : data_values_of (data_of f) ≡ layout_values f
   unfolding data_of data_values_of
-  data_values_lem = cc (port_is_given, port_is, of_payload payload_kind_of, payload_start_lem, payload_end_lem)
+  data_values = cc (port_is_given, port_is, of_payload payload_kind_of, payload_start, payload_end)
 
 -- ---- the fields
 
@@ -107,10 +107,10 @@ module _ (f : List ℕ) (h : IsData f) where
       (λ k.
       let there : has_port_of f ≡ true = le-leb (fhdr_length_of f + 6) (length f) k in
       let first : header_end_of f ≡ payload_start_of f = omega arith in
-      rw (payload_start_lem f, payload_end_lem f, there, first) (piece_within f (payload_start_of f) (payload_end_of f) (omega arith) (omega arith)))
+      rw (payload_start f, payload_end f, there, first) (piece_within f (payload_start_of f) (payload_end_of f) (omega arith) (omega arith)))
       (λ k.
       let none : has_port_of f ≡ false = lt-leb (fhdr_length_of f + 6) (length f) k in
-      rw (payload_start_lem f, payload_end_lem f, none) (piece_nowhere f))
+      rw (payload_start f, payload_end f, none) (piece_nowhere f))
 
   data_field_lem : (field : Field) → shown_of f (data_values_of (data_of f)) field ≡ data_field f field
   unfolding data_of data_values_of

@@ -5,7 +5,7 @@ use mir.Facts.{to_z-of_z}
 use borrow.Author.Rules.{rules}
 use Rattle.mac_commands.specs.Commands.{raw_of_of}
 use Rattle.command_numbers.specs.Numbers.{unsigned_of_of}
-use Rattle.command_numbers.proofs.NumberLaws.{status_bits, other_bits_lem, down_bits}
+use Rattle.command_numbers.proofs.NumberLaws.{status_bits, other_bits, down_bits}
 use Rattle.command_numbers.proofs.bits_of.Statement.{statement}
 use Rattle.command_numbers.proofs.bits_of.Tie as tie
 
@@ -21,7 +21,7 @@ returns-2 c =
     let s = c.before.before.before in
     c.Unsigned-of.ensures
     ∙ ap unsigned_of_of (to_z-of_z s.ranges.z)
-    ∙ other_bits_lem s.args.uplink s.args.id s.args.z c.before.if2.false
+    ∙ other_bits s.args.uplink s.args.id s.args.z c.before.if2.false
 
 returns-3 : tie.Need-returns-3
 returns-3 c =

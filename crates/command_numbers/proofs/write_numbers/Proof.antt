@@ -39,7 +39,7 @@ returns c =
     (third.unsigned-of2.ensures ∙ ap unsigned_of_of (took third.before.unsigned-of-arg2.given))
     (fourth.unsigned-of3.ensures ∙ ap unsigned_of_of (took fourth.before.unsigned-of-arg3.given))
     (fifth.unsigned-of4.ensures ∙ ap unsigned_of_of (took fifth.before.unsigned-of-arg4.given)) in
-    let w = c.before.before.write_fields_lem.ensures in (
+    let w = c.before.before.write_fields.ensures in (
       w.0 ∙ ap₂ (λ (n : ℕ) (xs : List ℕ). fields_written a.uplink n xs (length a.out.now) a.at) i v,
       w.1 ∙ ap₂ (λ (n : ℕ) (xs : List ℕ). fields_in a.uplink n xs a.out.now a.at) i v,
     )

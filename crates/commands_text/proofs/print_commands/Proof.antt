@@ -9,7 +9,7 @@ use Rattle.commands_text.proofs.print_commands.Tie as tie
 
 print-data-requires : tie.Need-print-data-requires
 print-data-requires c κs =
-    within _ _ (sym c.before.before.before.command_lists_lem.ensures ∙ c.before.found.given.1)
+    within _ _ (sym c.before.before.before.command_lists.ensures ∙ c.before.found.given.1)
 
 pub print-commands-spec : {M : Type 1} → statement M
 print-commands-spec =

@@ -7,7 +7,7 @@ use native.Mathlib.Omega.{arith}
 use borrow.Author.Rules.{rules}
 use lib.ListN.{length}
 use lib.Seq.{length-take-le}
-use Rattle.mac_commands.proofs.ReadBack.{read_as_lem}
+use Rattle.mac_commands.proofs.ReadBack.{read_as}
 use Rattle.commands_text.proofs.print_list.Statement.{statement}
 use Rattle.commands_text.proofs.print_list.Tie as tie
 
@@ -24,7 +24,7 @@ loop-less : tie.Need-loop-smaller invariant-loop decreases-loop
 loop-less c =
     let told = c.before.before.before in
     let read = told.before.before in
-    let found = read_as_lem _ _ _ _ _ (sym read.Read-step.ensures ∙ told.step.given.1) in omega (arith, found.next, found.room)
+    let found = read_as _ _ _ _ _ (sym read.Read-step.ensures ∙ told.step.given.1) in omega (arith, found.next, found.room)
 
 pub print-list-spec : {M : Type 1} → statement M
 print-list-spec =

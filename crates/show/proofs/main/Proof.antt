@@ -6,10 +6,10 @@ use Rattle.show.proofs.main.Statement.{statement}
 use Rattle.show.proofs.main.Tie as tie
 
 array-share-prefix-out : tie.Need-array-share-prefix-out
-array-share-prefix-out c = within _ _ c.before.describe_input_lem.ensures
+array-share-prefix-out c = within _ _ c.before.describe_input.ensures
 
 slice-aggregate-write-all : tie.Need-slice-aggregate-write-all
-slice-aggregate-write-all c = cut _ _ c.before.before.describe_input_lem.ensures
+slice-aggregate-write-all c = cut _ _ c.before.before.describe_input.ensures
 
 pub main_spec : {M : Type 1} → statement M
 main_spec =

@@ -6,7 +6,7 @@ use Rattle.show_text.proofs.describe.Statement.{statement}
 use Rattle.show_text.proofs.describe.Tie as tie
 
 returns : tie.Need-returns
-returns c = rw (← whole_text) c.before.before.describe_input_lem.ensures
+returns c = rw (← whole_text) c.before.before.describe_input.ensures
 
 pub describe-spec : {M : Type 1} → statement M
 describe-spec = tie.close (tie.spec (λ c κs. search rules) (λ c. search rules) returns)

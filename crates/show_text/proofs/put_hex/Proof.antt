@@ -6,7 +6,7 @@ use native.Mathlib.Omega.{arith}
 use borrow.Author.Rules.{rules}
 use lib.ListN.{length, take}
 use Rattle.base.specs.Storing.{Put}
-use Rattle.base.proofs.Put.{then, put_length_lem, none, same}
+use Rattle.base.proofs.Put.{then, put_length, none, same}
 use lib.Seq.{take_all}
 use Rattle.show_text.specs.Text.{hex_of}
 use Rattle.show_text.proofs.Digits.{hex_of_more}
@@ -24,7 +24,7 @@ unfolding hex_of
 loop-holds c = (search rules, omega arith, none _ _)
 
 put-hex-byte-requires : tie.Need-put-hex-byte-requires invariant-loop decreases-loop
-put-hex-byte-requires c κs = omega (arith, put_length_lem c.before.before.before.loop.invariant.2)
+put-hex-byte-requires c κs = omega (arith, put_length c.before.before.before.loop.invariant.2)
 
 loop-again : tie.Need-loop-preserved invariant-loop decreases-loop
 unfolding hex_of
@@ -37,7 +37,7 @@ loop-again c =
     )
 
 same_length : tie.Need-same-length invariant-loop decreases-loop
-same_length c = put_length_lem c.before.loop.invariant.2
+same_length c = put_length c.before.loop.invariant.2
 
 returns : tie.Need-returns invariant-loop decreases-loop
 returns c = same (ap hex_of (take_all c.before.loop.i _ c.loop-test.false)) c.before.loop.invariant.2

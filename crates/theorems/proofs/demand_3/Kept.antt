@@ -66,14 +66,14 @@ module _ (f nwk app : List ℕ) (counter : ℕ) (a : Accepted f nwk counter) (li
   held_byte : (i : ℕ) → i < length f → at (opened_of g nwk app counter).frame i ≡ at g i
   unfolding opened_of
   held_byte i h =
-      held_at g (after_accepted f nwk app counter a list).data_frame_lem.most i
-      (omega (arith, sealed_long f nwk app counter a.data_frame_lem p same))
+      held_at g (after_accepted f nwk app counter a list).data_frame.most i
+      (omega (arith, sealed_long f nwk app counter a.data_frame p same))
 
   stays : (j : ℕ) → j < length (payload f) → Unnamed (length (payload f)) j list → at g (header_end_of f + j) ≡ at f (header_end_of f + j)
   stays j h u =
       let key = frame_key f nwk app in
       let clear = clear_of f nwk app counter in
-      let d = a.data_frame_lem in
+      let d = a.data_frame in
       let end = sealed_end f nwk app counter d p same in
       let made = sealed-payload f nwk app counter d p same in
       let named : Unnamed (length clear) j list = subst (λ (n : ℕ). Unnamed n j list) (sym (clear_long f nwk app counter)) u in
@@ -88,12 +88,12 @@ module _ (f nwk app : List ℕ) (counter : ℕ) (a : Accepted f nwk counter) (li
 
   -- in the frame sealed anew
   pub sealed_keeps : Keeps f list g
-  sealed_keeps = record { ahead = sealed-at f nwk app counter a.data_frame_lem p same; others = stays }
+  sealed_keeps = record { ahead = sealed-at f nwk app counter a.data_frame p same; others = stays }
 
   -- and in the state that holds it
   kept : Keeps f list (opened_of g nwk app counter).frame
   kept =
-      let d = a.data_frame_lem in
+      let d = a.data_frame in
       record {
         ahead = λ i h. held_byte i (omega (arith, (placed f d).payload, (placed f d).mic)) ∙ sealed_keeps.ahead i h;
         others = λ j h u.

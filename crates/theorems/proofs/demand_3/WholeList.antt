@@ -20,7 +20,7 @@ use Rattle.amend.specs.Amending.{amend_of}
 use Rattle.amend.specs.OpenFrame.{open_of}
 use Rattle.amend.specs.AmendmentLists.{amended_by, payload_by, clear_of, decoded_all, amend_all_of, amend_frame_of, amended_frame}
 use Rattle.amend.proofs.Accepted.{opens_accepted}
-use Rattle.amend.proofs.Demand3.{demand_3_lem}
+use Rattle.amend.proofs.Demand3.{demand_3}
 use Rattle.theorems.proofs.demand_3.Kept.{Keeps, sealed_keeps}
 
 -- a test that two numbers decide
@@ -67,7 +67,7 @@ module _ (f nwk app : List ℕ) (counter : ℕ) (es : List ℕ) where
   unfolding amended_frame
   amended_frame_lem z =
       let s = amended_by (open_of f nwk app counter).state (decoded_all es) in
-      let stands = demand_3_lem f nwk app counter (both z).0 (decoded_all es) in
+      let stands = demand_3 f nwk app counter (both z).0 (decoded_all es) in
       passed (take (length f) a.state.frame) f (amend_frame_of f nwk app counter es).number z
       ∙ ap (λ (t : Open). take (length f) t.frame) (all_state (open_of f nwk app counter).state es (both z).1)
       ∙ ap (λ (n : ℕ). take n s.frame) (sym stands.long)

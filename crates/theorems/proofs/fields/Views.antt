@@ -23,7 +23,7 @@ use Rattle.view.specs.FrameFields.{fopts, no_field, data_field, join_field, fiel
 use Rattle.view.specs.Viewed.{view_of, part_of_of}
 use Rattle.view.specs.declared.parts.Field.{Field}
 use Rattle.view.specs.declared.parts.Field.TheVariants.{DevAddr, FOpts, Payload, Mic}
-use Rattle.view.proofs.ShownFields.{shows, data_values_lem}
+use Rattle.view.proofs.ShownFields.{shows, data_values}
 
 -- a part of a view is that field of the frame
 pub shown_field : (x : Bor (List ℕ)) (field : Field) → part_of_of (view_of x) field ≡ within x (field_of x.now field)
@@ -46,7 +46,7 @@ payload_bytes f h =
 
 module _ (x : Bor (List ℕ)) (h : IsData x.now) where
   pub data_holds : (view_of x).numbers ≡ layout_values x.now
-  data_holds = ap values_of_of (reads_data x.now h) ∙ data_values_lem x.now
+  data_holds = ap values_of_of (reads_data x.now h) ∙ data_values x.now
 
   pub data_shows : (field : Field) → part_of_of (view_of x) field ≡ within x (data_field x.now field)
   data_shows field = by_reading x (reads_data x.now h) field

@@ -17,7 +17,7 @@ use Rattle.frame.specs.Refusals.{refused}
 use Rattle.frame_build.specs.DataFrames.{Builds, built_value}
 use Rattle.frame_build.specs.declared.creator.Built.{Built}
 use Rattle.frame_build.specs.declared.creator.Built.TheVariants.{Frame, Refused}
-use Rattle.frame_build.proofs.creator.data_frame.build_data.Reads as build_data_lem
+use Rattle.frame_build.proofs.creator.data_frame.build_data.Reads as build_data
 use Rattle.frame_build.proofs.creator.join.build_join_request.Reads as build-join-request
 use Rattle.frame_build.proofs.creator.join.build_join_accept.Reads as build-join-accept
 use Rattle.theorems.specs.ReadBack.{Always, DataReadsBack, RequestReadsBack, AcceptReadsBack}
@@ -50,7 +50,7 @@ built_frame refusal frame l e r b n q = by_bool (eqb refusal 0) taken not_taken
 
 -- ---- data frames: parts, commands, payload, network key, application key, output
 
-pub data_reads_back : Always build_data_lem.Learnt
+pub data_reads_back : Always build_data.Learnt
     (λ κs a r s.
     (n : ℕ) → r ≡ Frame n
     → DataReadsBack a.1.1.1.0 a.1.1.1.1.0 a.0 a.1.0.now a.1.1.0.now

@@ -30,7 +30,7 @@ use Rattle.frame_opening.specs.FrameOpening.{Result, decrypted}
 use Rattle.frame_build.specs.DataBuilding.{fopts_of, body_of, data_header}
 use Rattle.frame_build.specs.declared.creator.Built.TheVariants.{Frame}
 use Rattle.frame_build.specs.declared.creator.data_frame.DataParts.{DataParts}
-use Rattle.frame_build.proofs.creator.data_frame.build_data.Reads as build_data_lem
+use Rattle.frame_build.proofs.creator.data_frame.build_data.Reads as build_data
 use Rattle.mac_commands.specs.InFrame.{on_port0, commands_from, commands_to, lists_of, in_frame_of, fopts_commands, payload_commands}
 use Rattle.mac_commands.specs.Lists.{list_at, bytes_all, Sent, no_more, placed, Output, write_all}
 use Rattle.mac_commands.specs.declared.in_frame.CommandLists.{CommandLists}
@@ -170,7 +170,7 @@ module _ (nwk app : List ℕ) (d : DataParts) (cs : List Command) (body f : List
   fopts_hold xs m e =
       ap (λ (u : Bool). list_at u (take (1 + fhdr_length_of f) f) 8) upward
       ∙ stands d.uplink xs f 8 (1 + fhdr_length_of f) m (omega (arith, is_data.least))
-      (b.back.fopts_end_lem ∙ ap (λ (l : List ℕ). 8 + length l) e)
+      (b.back.fopts_end ∙ ap (λ (l : List ℕ). 8 + length l) e)
       (ap (λ (l : List ℕ). part 8 (length l) f) (sym e) ∙ b.back.fopts ∙ e)
 
   -- opening leaves the header as it was
@@ -261,7 +261,7 @@ module _ (nwk app : List ℕ) (d : DataParts) (cs : List Command) (body f : List
               port_0 = not_there f g (other_port p);
               payload = empty_there f g (other_port p);
             };
-        on_port_0_lem =
+        on_port_0 =
             λ z.
             record {
               lists = its;
@@ -286,7 +286,7 @@ written_bytes up cs l i m h =
     ∙ take_at t rest (length t) refl
 
 -- and where the builder is given the bytes of commands in the frame's direction, they are read back
-pub commands_read_back : Always build_data_lem.Learnt
+pub commands_read_back : Always build_data.Learnt
     (λ κs a r s.
     (n : ℕ) → r ≡ Frame n → (cs : List Command) → a.1.0.now ≡ bytes_all cs → Sent a.0.uplink cs
     → CommandsBack a.1.1.1.0 a.1.1.1.1.0 a.0 cs (take n s.1.1.1.1.1.0.now))

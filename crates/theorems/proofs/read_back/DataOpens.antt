@@ -18,7 +18,7 @@ use Rattle.frame_security.specs.Security.{crypted, frame_key, full_counter_of, c
 use Rattle.frame_security.proofs.MicCompared.{test_of_same}
 use Rattle.amend.proofs.Accepted.{accepted_opens}
 use Rattle.frame_opening.specs.declared.payload.Opening.TheVariants.{Opened}
-use Rattle.theorems.proofs.refusals.OpeningRefusals.{data_test_lem}
+use Rattle.theorems.proofs.refusals.OpeningRefusals.{data_test}
 use Rattle.theorems.proofs.read_back.OpenedParts.{opened_both}
 use Rattle.frame_build.specs.DataBuilding.{body_of, data_header}
 use Rattle.frame_build.specs.declared.creator.data_frame.DataParts.{DataParts}
@@ -54,10 +54,10 @@ module _ (nwk app : List ℕ) (d : DataParts) (commands body f : List ℕ) (b : 
   pub data_opens : DataOpens nwk app d commands body f
   data_opens =
       record {
-        passes = (data_test_lem nwk d.fcnt f).passes.back (is_data, b.mic_back);
+        passes = (data_test nwk d.fcnt f).passes.back (is_data, b.mic_back);
         opens = opened_back;
         opens_checked = checked_back ∙ opened_back;
         opens_to_amend =
             accepted_opens f nwk app d.fcnt
-            (record { data_frame_lem = is_data; low_half = sym b.count; signed = sym b.mic_back });
+            (record { data_frame = is_data; low_half = sym b.count; signed = sym b.mic_back });
       }

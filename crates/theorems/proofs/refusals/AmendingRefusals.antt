@@ -29,7 +29,7 @@ use Rattle.amend.proofs.SignedOnce.{list_alike}
 use Rattle.amend_held.specs.HeldCalls.{taken_of}
 use Rattle.amend_held.specs.declared.calls.Taken.{Taken}
 use Rattle.theorems.specs.Exactly.{Exactly, Condition, ◌when◌, ◌unless◌, Refuses}
-use Rattle.theorems.specs.ByReading.{data_frame_lem, AfterReading}
+use Rattle.theorems.specs.ByReading.{data_frame, AfterReading}
 use Rattle.theorems.specs.OpeningConditions.{RightDataMic}
 use Rattle.theorems.specs.AmendingConditions.{Outside, outside, open_then, open_conditions, amend_conditions, list_conditions, frame_conditions, taken_conditions}
 use Rattle.theorems.proofs.refusals.FirstDue.{if_when, if_unless, if_not, if_below, if_most, if_equal, by_none, with_none, fresh, Gives, through, nothing_left, past, refuses}
@@ -85,11 +85,11 @@ module _ (f nwk app : List ℕ) (counter : ℕ) (h : Opened → Refusal)
 
 module _ (f nwk app : List ℕ) (counter : ℕ) where
   -- reading, 14, 5
-  pub opening : AfterReading (λ r. r) refused data_frame_lem f (open_conditions nwk counter f) (open_of f nwk app counter).refusal
+  pub opening : AfterReading (λ r. r) refused data_frame f (open_conditions nwk counter f) (open_of f nwk app counter).refusal
   unfolding open_of
   opening =
-      rw (on_through (λ (o : Opened). o.refusal) data_frame_lem f (open_data f nwk app counter) refused_opening (λ r. r) (λ r n. refl))
-      (refusal_after data_frame_lem f (λ i. opened_gives f nwk app counter (λ o. o.refusal) (λ n. refl) tt tt nothing_left))
+      rw (on_through (λ (o : Opened). o.refusal) data_frame f (open_data f nwk app counter) refused_opening (λ r. r) (λ r n. refl))
+      (refusal_after data_frame f (λ i. opened_gives f nwk app counter (λ o. o.refusal) (λ n. refl) tt tt nothing_left))
 
 -- ---- amending an open frame, in every state
 
@@ -135,11 +135,11 @@ module _ (f nwk app : List ℕ) (counter : ℕ) (es : List ℕ) where
       (list_gives s es))
 
   -- reading, 14, 5, 15
-  pub amending_frame : AfterReading (λ r. r) refused data_frame_lem f (frame_conditions nwk counter f es) (amend_frame_of f nwk app counter es)
+  pub amending_frame : AfterReading (λ r. r) refused data_frame f (frame_conditions nwk counter f es) (amend_frame_of f nwk app counter es)
   unfolding amend_frame_of open_of then_list
   amending_frame =
-      rw (on_through then_list data_frame_lem f (open_data f nwk app counter) refused_opening (λ r. r) refused_first)
-      (refusal_after data_frame_lem f
+      rw (on_through then_list data_frame f (open_data f nwk app counter) refused_opening (λ r. r) refused_first)
+      (refusal_after data_frame f
       (λ i. opened_gives f nwk app counter then_list (λ n. refused_first (refused (suc n)) (λ e. omega arith)) tt tt (list_then i)))
 
 -- ---- taking the frame out: 7

@@ -21,7 +21,7 @@ use Rattle.frame_opening.specs.SessionKeys.{session_keys_of}
 use Rattle.frame_c.specs.CAnswers.{or_short_of}
 use Rattle.frame_c.specs.CGiven.{data_refused}
 use Rattle.theorems.specs.Exactly.{Exactly, Due}
-use Rattle.theorems.specs.ByReading.{Needs, join_request_lem, join_accept_lem, AfterReading}
+use Rattle.theorems.specs.ByReading.{Needs, join_request, join_accept, AfterReading}
 use Rattle.theorems.specs.BuildingConditions.{Answers}
 use Rattle.theorems.specs.BridgeConditions.{kind_conditions, room_conditions, stored_refusal, number_in_c, place_in_c}
 use Rattle.theorems.proofs.refusals.BuildingRefusals.{data_gives, answers}
@@ -71,18 +71,18 @@ module _ (count room : ℕ) where
 
 -- session keys, 32 bytes: reading, 7
 pub keys_stored : (key dev_nonce_of f : List ℕ) (room : ℕ)
-    → AfterReading (λ r. r) refused join_accept_lem f (room_conditions 32 room) (stored_refusal (session_keys_of key dev_nonce_of f).refusal 32 room)
-keys_stored key dev_nonce_of f room = rw (session_refusal key dev_nonce_of f) (stored_after 32 room join_accept_lem f)
+    → AfterReading (λ r. r) refused join_accept f (room_conditions 32 room) (stored_refusal (session_keys_of key dev_nonce_of f).refusal 32 room)
+keys_stored key dev_nonce_of f room = rw (session_refusal key dev_nonce_of f) (stored_after 32 room join_accept f)
 
 -- the fields of a join-request, 22 bytes: reading, 7
 pub request_stored : (f : List ℕ) (room : ℕ)
-    → AfterReading (λ r. r) refused join_request_lem f (room_conditions 22 room) (stored_refusal (join_request_fields_of f).refusal 22 room)
-request_stored f room = rw (request_refusal f) (stored_after 22 room join_request_lem f)
+    → AfterReading (λ r. r) refused join_request f (room_conditions 22 room) (stored_refusal (join_request_fields_of f).refusal 22 room)
+request_stored f room = rw (request_refusal f) (stored_after 22 room join_request f)
 
 -- the fields of a join-accept, 42 bytes: reading, 7
 pub accept_stored : (f : List ℕ) (room : ℕ)
-    → AfterReading (λ r. r) refused join_accept_lem f (room_conditions 42 room) (stored_refusal (join_accept_fields_of f).refusal 42 room)
-accept_stored f room = rw (accept_refusal f) (stored_after 42 room join_accept_lem f)
+    → AfterReading (λ r. r) refused join_accept f (room_conditions 42 room) (stored_refusal (join_accept_fields_of f).refusal 42 room)
+accept_stored f room = rw (accept_refusal f) (stored_after 42 room join_accept f)
 
 -- ---- the number in an answer, and the place above it
 

@@ -24,7 +24,7 @@ use Rattle.frame_build.specs.declared.creator.data_frame.DataParts.{DataParts}
 use Rattle.frame_build.specs.declared.creator.join.JoinRequestParts.{JoinRequestParts}
 use Rattle.frame_build.specs.declared.creator.join.JoinAcceptParts.{JoinAcceptParts}
 use Rattle.theorems.specs.Exactly.{Exactly, Condition, Due}
-use Rattle.theorems.specs.BuildingConditions.{NotPort0, absent, other, TooManyCommands, PayloadOnPort0, PayloadWithoutPort, data_conditions, request_conditions, WrongChannels, many, high, WrongList, NoRoom, bare, with_list_lem, accept_conditions, Answers}
+use Rattle.theorems.specs.BuildingConditions.{NotPort0, absent, other, TooManyCommands, PayloadOnPort0, PayloadWithoutPort, data_conditions, request_conditions, WrongChannels, many, high, WrongList, NoRoom, bare, with_list, accept_conditions, Answers}
 use Rattle.theorems.proofs.refusals.SomeIndex.{SomeAt, if_some}
 use Rattle.theorems.proofs.refusals.FirstDue.{apart, if_when, if_unless, if_not, if_below, if_equal, by_none, Gives, plain, none_left, or_else, says_told, no_other, in_answer}
 
@@ -76,14 +76,14 @@ if_channels cs =
 
 -- the room that is needed goes by the list
 room_there : (listed : Bool) (room : ℕ) → room < pick listed 33 17 → NoRoom listed room
-room_there true room h = with_list_lem refl h
+room_there true room h = with_list refl h
 room_there false room h = bare refl h
 
 room_back : (listed : Bool) (room : ℕ) → NoRoom listed room → room < pick listed 33 17
 room_back true room (bare e h) = apart e
-room_back true room (with_list_lem e h) = h
+room_back true room (with_list e h) = h
 room_back false room (bare e h) = h
-room_back false room (with_list_lem e h) = apart (sym e)
+room_back false room (with_list e h) = apart (sym e)
 
 if_no_room : (listed : Bool) (room : ℕ) → Exactly (ltb room (pick listed 33 17) ≡ true) (NoRoom listed room)
 if_no_room listed room =

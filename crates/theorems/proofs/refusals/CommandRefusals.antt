@@ -46,7 +46,7 @@ use Rattle.mac_commands.proofs.StepLaws as steps
 use Rattle.mac_commands.proofs.TableLaws.{row_distinct, row_within, row_named}
 use Rattle.frame_c.specs.CCommands.{step_answer}
 use Rattle.theorems.specs.Exactly.{Exactly, Condition}
-use Rattle.theorems.specs.ByReading.{data_frame_lem, AfterReading}
+use Rattle.theorems.specs.ByReading.{data_frame, AfterReading}
 use Rattle.theorems.specs.CommandConditions.{Unknown, low, high, Known, size_at, UnknownAt, CutShortAt, WholeAt, command_at, Steps, Unfit, unfit, NoRoom, row_conditions, field_conditions, Writes, written_refusal, written_of, OutsideMargin, under, over, lists_answer, lists_refusal}
 use Rattle.theorems.proofs.refusals.FirstDue.{apart, if_when, if_not, with_none, Gives, no_more, passed, says_told, no_other}
 use Rattle.theorems.proofs.refusals.ReadFirst.{on, after_reading}
@@ -472,24 +472,24 @@ fields_kept up id xs l i q e = by (known id) e
 
 module _ (f : List ℕ) where
   -- a frame that is read as data has the fields that it has
-  of_frame_lem : (r : Reading) → Says f r
+  of_frame : (r : Reading) → Says f r
       → on_data (λ d. Lists (lists_of d)) NoLists r ≡ on_data (λ d. Lists (lists_of (data_of f))) NoLists r
-  of_frame_lem JoinRequest s = refl
-  of_frame_lem (JoinAccept n) s = refl
-  of_frame_lem (Data d) s = ap (λ (x : DataFrame). Lists (lists_of x)) s.1
-  of_frame_lem (NotRead r) s = refl
+  of_frame JoinRequest s = refl
+  of_frame (JoinAccept n) s = refl
+  of_frame (Data d) s = ap (λ (x : DataFrame). Lists (lists_of x)) s.1
+  of_frame (NotRead r) s = refl
 
-  in_frame : in_frame_of f ≡ on data_frame_lem (Lists (lists_of (data_of f))) NoLists (read_of f)
+  in_frame : in_frame_of f ≡ on data_frame (Lists (lists_of (data_of f))) NoLists (read_of f)
   unfolding in_frame_of
-  in_frame = of_frame_lem (read_of f) (answers f)
+  in_frame = of_frame (read_of f) (answers f)
 
   lists_told : (n : ℕ) → lists_refusal (lists_answer f n) ≡ refused n
   lists_told = says_told NoLists (Lists (lists_of (data_of f))) lists_refusal (λ r. refl) refl
 
-  pub command_lists_lem : AfterReading NoLists (lists_answer f) data_frame_lem f [] (in_frame_of f)
-  command_lists_lem =
+  pub command_lists : AfterReading NoLists (lists_answer f) data_frame f [] (in_frame_of f)
+  command_lists =
       rw in_frame
-      (after_reading NoLists (lists_answer f) lists_refusal (λ r. refl) lists_told data_frame_lem f
+      (after_reading NoLists (lists_answer f) lists_refusal (λ r. refl) lists_told data_frame f
       (λ h. no_more (lists_answer f) lists_refusal lists_told))
 
   -- so lists are given exactly of a data frame, and no others than its own
@@ -505,5 +505,5 @@ module _ (f : List ℕ) where
   lists_found l =
       record {
         there = given l (read_of f) (answers f);
-        back = λ h. (command_lists_lem.own 0 tt).back (h.0, refl) ∙ ap Lists (sym h.1);
+        back = λ h. (command_lists.own 0 tt).back (h.0, refl) ∙ ap Lists (sym h.1);
       }

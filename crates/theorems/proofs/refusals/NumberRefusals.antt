@@ -18,7 +18,7 @@ use Rattle.mac_commands.specs.Layout.{fits, count_in_row, width_at, downs, ups, 
 use Rattle.mac_commands.specs.declared.maccommandcreator.Written.TheVariants.{Upto, Refused as Unwritten}
 use Rattle.mac_commands.proofs.TableLaws.{count_most, width_most}
 use Rattle.command_numbers.specs.Numbers.{unsigned_of_of, id_of_number, bits_of_number, number, id_given, values_given}
-use Rattle.command_numbers.proofs.NumberLaws.{status_bits, other_bits_lem, down_bits}
+use Rattle.command_numbers.proofs.NumberLaws.{status_bits, other_bits, down_bits}
 use Rattle.theorems.specs.Exactly.{Exactly}
 use Rattle.theorems.specs.CommandConditions.{Unknown, Unfit, unfit, NoRoom, Writes, written_refusal, written_of}
 use Rattle.theorems.specs.CommandConditions as plain
@@ -101,7 +101,7 @@ bits_back w (negsuc k) b o = b
 -- ---- the values that six numbers give
 
 plain_second : (up : Bool) (id : ℕ) (z : ℤ) → (up ≡ true → id ≡ 6 → ⊥) → bits_of_number up id z ≡ unsigned_of_of z
-plain_second true id z n = sym (other_bits_lem true id z (n refl))
+plain_second true id z n = sym (other_bits true id z (n refl))
 plain_second false id z n = sym (down_bits false id z refl)
 
 value_at : (up : Bool) (zs : List ℤ) (k : ℕ) → k < 5 → (up ≡ true → id_given zs ≡ 6 → k ≡ 1 → ⊥)

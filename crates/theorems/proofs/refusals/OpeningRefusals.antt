@@ -37,11 +37,11 @@ use Rattle.frame_opening.specs.declared.mic_tests.MicTest.{MicTest}
 use Rattle.frame_opening.specs.declared.mic_tests.MicTest.TheVariants.{Passes, Fails, Refused as RefusedTest}
 use Rattle.frame_opening.specs.declared.payload.Opening.TheVariants.{Opened, Refused}
 use Rattle.theorems.specs.Exactly.{Exactly, Condition}
-use Rattle.theorems.specs.ByReading.{Needs, join_request_lem, join_accept_lem, data_frame_lem, Is, ByReading, AfterReading}
+use Rattle.theorems.specs.ByReading.{Needs, join_request, join_accept, data_frame, Is, ByReading, AfterReading}
 use Rattle.theorems.specs.OpeningConditions.{RightDataMic, RightJoinMic, Tests, KeyMissing, empty, zero, other, plain_conditions, checked_conditions, checked_accept_conditions, opening_of}
 use Rattle.theorems.proofs.refusals.KeyChoice.{by_empty, by_its_port}
 use Rattle.theorems.proofs.refusals.FirstDue.{apart, if_when, if_unless, if_not, with_none, Gives, no_more, passed, nothing_left, says_told, through}
-use Rattle.theorems.proofs.refusals.ReadFirst.{on, on_through, either_way_lem, needed, handed_on, after_reading, refusal_after}
+use Rattle.theorems.proofs.refusals.ReadFirst.{on, on_through, either_way, needed, handed_on, after_reading, refusal_after}
 
 -- ---- what the tests tell
 
@@ -132,27 +132,27 @@ accept_gives key f =
 
 -- plain decryption of a data frame: reading, 6
 pub data_opening : (nwk app : MaybeKey) (counter : ℕ) (f : List ℕ)
-    → AfterReading Refused opening_of data_frame_lem f (plain_conditions nwk app f) (data_opened nwk app counter f).answer
+    → AfterReading Refused opening_of data_frame f (plain_conditions nwk app f) (data_opened nwk app counter f).answer
 unfolding data_opened
-data_opening nwk app counter f = opens_after data_frame_lem f (opened_under (frame_key f nwk app) counter f) (key_gives nwk app counter f)
+data_opening nwk app counter f = opens_after data_frame f (opened_under (frame_key f nwk app) counter f) (key_gives nwk app counter f)
 
 -- checked decryption of a data frame: reading, 5, 6
 pub checked_opening : (nwk : List ℕ) (app : MaybeKey) (counter : ℕ) (f : List ℕ)
-    → AfterReading Refused opening_of data_frame_lem f (checked_conditions nwk app counter f) (data_opened_checked nwk app counter f).answer
+    → AfterReading Refused opening_of data_frame f (checked_conditions nwk app counter f) (data_opened_checked nwk app counter f).answer
 unfolding data_opened_checked
-checked_opening nwk app counter f = opens_after data_frame_lem f (opened_tested nwk app counter f) (tested_gives nwk app counter f)
+checked_opening nwk app counter f = opens_after data_frame f (opened_tested nwk app counter f) (tested_gives nwk app counter f)
 
 -- plain decryption of a join-accept: reading
-pub accept_opening : (key f : List ℕ) → AfterReading Refused opening_of join_accept_lem f [] (accept_opened key f).answer
+pub accept_opening : (key f : List ℕ) → AfterReading Refused opening_of join_accept f [] (accept_opened key f).answer
 unfolding accept_opened
 accept_opening key f =
-    opens_after join_accept_lem f (result Opened (accept_decrypted key f)) (λ h. no_more opening_of opening_refusal told_opening)
+    opens_after join_accept f (result Opened (accept_decrypted key f)) (λ h. no_more opening_of opening_refusal told_opening)
 
 -- checked opening of a join-accept: reading, 5
 pub checked_accept : (key f : List ℕ)
-    → AfterReading Refused opening_of join_accept_lem f (checked_accept_conditions key f) (accept_opened_checked key f).answer
+    → AfterReading Refused opening_of join_accept f (checked_accept_conditions key f) (accept_opened_checked key f).answer
 unfolding accept_opened_checked
-checked_accept key f = opens_after join_accept_lem f (accept_tested key f) (λ h. accept_gives key f)
+checked_accept key f = opens_after join_accept f (accept_tested key f) (λ h. accept_gives key f)
 
 -- ---- the numbers 5 and 6 of them and what is opened, written out
 
@@ -222,7 +222,7 @@ module _ (k : Needs) (f s u : List ℕ) where
               there =
                   λ q.
                   ⊎_elim (λ i. (i, same_of_test s u (passes_where (same_bytes s u) (sym (made i) ∙ q))))
-                  (λ h. let e = another h.0 h.1 Passes q in apart (cc)) (either_way_lem f k);
+                  (λ h. let e = another h.0 h.1 Passes q in apart (cc)) (either_way f k);
               back = λ h. made h.0 ∙ ap answered (test_of_same s u h.1);
             };
         fails =
@@ -231,7 +231,7 @@ module _ (k : Needs) (f s u : List ℕ) where
                   λ q.
                   ⊎_elim
                   (λ i. (i, λ e. apart (sym (test_of_same s u e) ∙ fails_where (same_bytes s u) (sym (made i) ∙ q))))
-                  (λ h. let e = another h.0 h.1 Fails q in apart (cc)) (either_way_lem f k);
+                  (λ h. let e = another h.0 h.1 Fails q in apart (cc)) (either_way f k);
               back =
                   λ h.
                   made h.0
@@ -247,22 +247,22 @@ module _ (k : Needs) (f s u : List ℕ) where
                   let e = another h.0 h.1 (RefusedTest r) q in
                   let is : h.0 ≡ r = cc in
                   subst (λ (t : Refusal). ByReading k f t) is h.1)
-                  (either_way_lem f k);
+                  (either_way f k);
               back = handed r;
             };
       }
 
-pub request_test : (key f : List ℕ) → Tests join_request_lem f (RightJoinMic key f) (join_request_test key f)
+pub request_test : (key f : List ℕ) → Tests join_request f (RightJoinMic key f) (join_request_test key f)
 unfolding join_request_test join_passes
-request_test key f = tests join_request_lem f (mic_of_of f) (join_mic key (covered f))
+request_test key f = tests join_request f (mic_of_of f) (join_mic key (covered f))
 
-pub accept_test : (key f : List ℕ) → Tests join_accept_lem f (RightJoinMic key f) (join_accept_test key f)
+pub accept_test : (key f : List ℕ) → Tests join_accept f (RightJoinMic key f) (join_accept_test key f)
 unfolding join_accept_test join_passes
-accept_test key f = tests join_accept_lem f (mic_of_of f) (join_mic key (covered f))
+accept_test key f = tests join_accept f (mic_of_of f) (join_mic key (covered f))
 
-pub data_test_lem : (key : List ℕ) (counter : ℕ) (f : List ℕ) → Tests data_frame_lem f (RightDataMic key counter f) (data_test_of key counter f)
+pub data_test : (key : List ℕ) (counter : ℕ) (f : List ℕ) → Tests data_frame f (RightDataMic key counter f) (data_test_of key counter f)
 unfolding data_test_of data_passes
-data_test_lem key counter f = tests data_frame_lem f (mic_of_of f) (data_mic_of key (covered f) counter)
+data_test key counter f = tests data_frame f (mic_of_of f) (data_mic_of key (covered f) counter)
 
 -- ---- calls with a refusal beside their values: reading alone
 
@@ -271,27 +271,27 @@ values_after : (k : Needs) (f : List ℕ) → AfterReading (λ r. r) refused k f
 values_after k f = refusal_after k f (λ i. nothing_left)
 
 -- the refusal in each of these answers
-pub session_refusal : (key dev_nonce_of f : List ℕ) → (session_keys_of key dev_nonce_of f).refusal ≡ on join_accept_lem not_refused (λ r. r) (read_of f)
+pub session_refusal : (key dev_nonce_of f : List ℕ) → (session_keys_of key dev_nonce_of f).refusal ≡ on join_accept not_refused (λ r. r) (read_of f)
 unfolding session_keys_of derived_keys no_keys_of
 session_refusal key dev_nonce_of f =
-    on_through (λ (s : SessionKeys). s.refusal) join_accept_lem f (derived_keys key dev_nonce_of f) no_keys_of (λ r. r) (λ r n. refl)
+    on_through (λ (s : SessionKeys). s.refusal) join_accept f (derived_keys key dev_nonce_of f) no_keys_of (λ r. r) (λ r n. refl)
 
-pub request_refusal : (f : List ℕ) → (join_request_fields_of f).refusal ≡ on join_request_lem not_refused (λ r. r) (read_of f)
+pub request_refusal : (f : List ℕ) → (join_request_fields_of f).refusal ≡ on join_request not_refused (λ r. r) (read_of f)
 unfolding request_fields_of no_request_of
 request_refusal f =
-    on_through (λ (s : JoinRequestFields). s.refusal) join_request_lem f (request_fields_of f) no_request_of (λ r. r) (λ r n. refl)
+    on_through (λ (s : JoinRequestFields). s.refusal) join_request f (request_fields_of f) no_request_of (λ r. r) (λ r n. refl)
 
-pub accept_refusal : (f : List ℕ) → (join_accept_fields_of f).refusal ≡ on join_accept_lem not_refused (λ r. r) (read_of f)
+pub accept_refusal : (f : List ℕ) → (join_accept_fields_of f).refusal ≡ on join_accept not_refused (λ r. r) (read_of f)
 unfolding accept_fields_of no_accept_of
 accept_refusal f =
-    on_through (λ (s : JoinAcceptFields). s.refusal) join_accept_lem f (accept_fields_of f) no_accept_of (λ r. r) (λ r n. refl)
+    on_through (λ (s : JoinAcceptFields). s.refusal) join_accept f (accept_fields_of f) no_accept_of (λ r. r) (λ r n. refl)
 
 -- and what it goes by
-pub session_keys_lem : (key dev_nonce_of f : List ℕ) → AfterReading (λ r. r) refused join_accept_lem f [] (session_keys_of key dev_nonce_of f).refusal
-session_keys_lem key dev_nonce_of f = rw (session_refusal key dev_nonce_of f) (values_after join_accept_lem f)
+pub session_keys : (key dev_nonce_of f : List ℕ) → AfterReading (λ r. r) refused join_accept f [] (session_keys_of key dev_nonce_of f).refusal
+session_keys key dev_nonce_of f = rw (session_refusal key dev_nonce_of f) (values_after join_accept f)
 
-pub request_fields_lem : (f : List ℕ) → AfterReading (λ r. r) refused join_request_lem f [] (join_request_fields_of f).refusal
-request_fields_lem f = rw (request_refusal f) (values_after join_request_lem f)
+pub request_fields : (f : List ℕ) → AfterReading (λ r. r) refused join_request f [] (join_request_fields_of f).refusal
+request_fields f = rw (request_refusal f) (values_after join_request f)
 
-pub accept_fields_lem : (f : List ℕ) → AfterReading (λ r. r) refused join_accept_lem f [] (join_accept_fields_of f).refusal
-accept_fields_lem f = rw (accept_refusal f) (values_after join_accept_lem f)
+pub accept_fields : (f : List ℕ) → AfterReading (λ r. r) refused join_accept f [] (join_accept_fields_of f).refusal
+accept_fields f = rw (accept_refusal f) (values_after join_accept f)

@@ -35,11 +35,11 @@ use Rattle.mac_commands.specs.declared.maccommandcreator.Written.{Written}
 use Rattle.mac_commands.specs.declared.maccommandcreator.Written.TheVariants.{Upto, Refused as Unwritten}
 use Rattle.show_text.specs.Text.{text_of, text_of_input, text_room, described_of}
 use Rattle.theorems.specs.Exactly.{Condition, NotOwn, Refuses}
-use Rattle.theorems.specs.ByReading.{Needs, data_frame_lem, ByReading, keeps, other, of_reading, AfterReading}
+use Rattle.theorems.specs.ByReading.{Needs, data_frame, ByReading, keeps, other, of_reading, AfterReading}
 use Rattle.theorems.specs.CommandConditions.{Writes, written_refusal, lists_answer, lists_refusal}
 use Rattle.theorems.specs.NumberConditions.{numbers_written}
 use Rattle.theorems.specs.OpeningConditions.{Tests, opening_of}
-use Rattle.theorems.specs.Places.{Reads, read, view, request_fields_lem, accept_fields_lem, session_keys_lem, request_stored, accept_stored, keys_stored, request_mic, accept_mic, data_mic_lem, decrypt_data_lem, decrypt_data_checked_lem, decrypt_accept_lem, decrypt_accept_checked_lem, open_frame_lem, amend_frame_lem, command_lists_lem, reads_refusal, Others, amend, amend_list_lem, take_out, build_data_lem, build_kind, build_request, build_accept, write_command_lem, write_fields_lem, write_numbers_lem, describe, describe_input_lem, others_refusal, Call, reads, others, refusal_of, ReaderRefuses, Placed}
+use Rattle.theorems.specs.Places.{Reads, read, view, request_fields, accept_fields, session_keys, request_stored, accept_stored, keys_stored, request_mic, accept_mic, data_mic, decrypt_data, decrypt_data_checked, decrypt_accept, decrypt_accept_checked, open_frame, amend_frame, command_lists, reads_refusal, Others, amend, amend_list, take_out, build_data, build_kind, build_request, build_accept, write_command, write_fields, write_numbers, describe, describe_input, others_refusal, Call, reads, others, refusal_of, ReaderRefuses, Placed}
 use Rattle.theorems.proofs.refusals.AmendingRefusals as amends
 use Rattle.theorems.proofs.refusals.BridgeRefusals as bridge
 use Rattle.theorems.proofs.refusals.CommandRefusals as commands
@@ -76,16 +76,16 @@ module _ (f : List ℕ) where
   Reader s = read_of f ≡ Refused s
 
   -- a refusal that reading gives, where the reader does not refuse, is 4 at place 0
-  other_type_lem : (k : Needs) (r : Refusal) → ByReading k f r → ((s : Refusal) → Reader s → ⊥) → r.place ≡ 0
-  other_type_lem k r (keeps q) n = absurd (n r q)
-  other_type_lem k r (other p i e) n = ap (λ (s : Refusal). s.place) e
+  other_type : (k : Needs) (r : Refusal) → ByReading k f r → ((s : Refusal) → Reader s → ⊥) → r.place ≡ 0
+  other_type k r (keeps q) n = absurd (n r q)
+  other_type k r (other p i e) n = ap (λ (s : Refusal). s.place) e
 
   refusal-placed : (k : Needs) (cs : List Condition) → T (past_reading cs) → (x : Refusal)
       → AfterReading (λ r. r) refused k f cs x → Placed Reader x
   refusal-placed k cs t x a =
       record {
         handed_on = λ s q. (a.reading s (reading_not_own cs s t (reading_number f k s (keeps q)))).back (keeps q);
-        else_0 = λ n. by_equal x.place 0 (λ e. e) (λ m. other_type_lem k x ((a.reading x (placed_not_own cs x m)).there refl) n);
+        else_0 = λ n. by_equal x.place 0 (λ e. e) (λ m. other_type k x ((a.reading x (placed_not_own cs x m)).there refl) n);
       }
 
   -- an opening
@@ -93,7 +93,7 @@ module _ (f : List ℕ) where
       → ((s : Refusal) → Reader s → ⊥) → (opening_refusal x).place ≡ 0
   opening_at k cs Opened a n = refl
   opening_at k cs (RefusedOpening r) a n =
-      by_equal r.place 0 (λ e. e) (λ m. other_type_lem k r ((a.reading r (placed_not_own cs r m)).there refl) n)
+      by_equal r.place 0 (λ e. e) (λ m. other_type k r ((a.reading r (placed_not_own cs r m)).there refl) n)
 
   opening_placed : (k : Needs) (cs : List Condition) → T (past_reading cs) → (x : Opening)
       → AfterReading RefusedOpening opening_of k f cs x → Placed Reader (opening_refusal x)
@@ -104,17 +104,17 @@ module _ (f : List ℕ) where
       }
 
   -- the lists of MAC commands
-  lists_at : (cs : List Condition) (x : InFrame) → AfterReading NoLists (lists_answer f) data_frame_lem f cs x
+  lists_at : (cs : List Condition) (x : InFrame) → AfterReading NoLists (lists_answer f) data_frame f cs x
       → ((s : Refusal) → Reader s → ⊥) → (lists_refusal x).place ≡ 0
   lists_at cs (Lists l) a n = refl
   lists_at cs (NoLists r) a n =
-      by_equal r.place 0 (λ e. e) (λ m. other_type_lem data_frame_lem r ((a.reading r (placed_not_own cs r m)).there refl) n)
+      by_equal r.place 0 (λ e. e) (λ m. other_type data_frame r ((a.reading r (placed_not_own cs r m)).there refl) n)
 
   lists_placed : Placed Reader (lists_refusal (in_frame_of f))
   lists_placed =
-      let a = commands.command_lists_lem f in
+      let a = commands.command_lists f in
       record {
-        handed_on = λ s q. ap lists_refusal ((a.reading s (reading_not_own [] s tt (reading_number f data_frame_lem s (keeps q)))).back (keeps q));
+        handed_on = λ s q. ap lists_refusal ((a.reading s (reading_not_own [] s tt (reading_number f data_frame s (keeps q)))).back (keeps q));
         else_0 = lists_at [] (in_frame_of f) a;
       }
 
@@ -123,7 +123,7 @@ module _ (f : List ℕ) where
       → (test_refusal t).place ≡ 0
   test_at k Passes a n = refl
   test_at k Fails a n = refl
-  test_at k (RefusedTest r) a n = other_type_lem k r ((a.reading r).there refl) n
+  test_at k (RefusedTest r) a n = other_type k r ((a.reading r).there refl) n
 
   test_placed : (k : Needs) {Right : Type 0} (t : MicTest) → Tests k f Right t → Placed Reader (test_refusal t)
   test_placed k t a =
@@ -156,22 +156,22 @@ module _ (f : List ℕ) where
   reads_placed : (c : Reads f) → Placed Reader (reads_refusal f c)
   reads_placed read = read_placed
   reads_placed view = view_placed
-  reads_placed request_fields_lem = refusal-placed _ _ tt _ (opens.request_fields_lem f)
-  reads_placed accept_fields_lem = refusal-placed _ _ tt _ (opens.accept_fields_lem f)
-  reads_placed (session_keys_lem key dev_nonce_of) = refusal-placed _ _ tt _ (opens.session_keys_lem key dev_nonce_of f)
+  reads_placed request_fields = refusal-placed _ _ tt _ (opens.request_fields f)
+  reads_placed accept_fields = refusal-placed _ _ tt _ (opens.accept_fields f)
+  reads_placed (session_keys key dev_nonce_of) = refusal-placed _ _ tt _ (opens.session_keys key dev_nonce_of f)
   reads_placed (request_stored room) = refusal-placed _ _ tt _ (bridge.request_stored f room)
   reads_placed (accept_stored room) = refusal-placed _ _ tt _ (bridge.accept_stored f room)
   reads_placed (keys_stored key dev_nonce_of room) = refusal-placed _ _ tt _ (bridge.keys_stored key dev_nonce_of f room)
   reads_placed (request_mic key) = test_placed _ _ (opens.request_test key f)
   reads_placed (accept_mic key) = test_placed _ _ (opens.accept_test key f)
-  reads_placed (data_mic_lem key counter) = test_placed _ _ (opens.data_test_lem key counter f)
-  reads_placed (decrypt_data_lem nwk app counter) = opening_placed _ _ tt _ (opens.data_opening nwk app counter f)
-  reads_placed (decrypt_data_checked_lem nwk app counter) = opening_placed _ _ tt _ (opens.checked_opening nwk app counter f)
-  reads_placed (decrypt_accept_lem key) = opening_placed _ _ tt _ (opens.accept_opening key f)
-  reads_placed (decrypt_accept_checked_lem key) = opening_placed _ _ tt _ (opens.checked_accept key f)
-  reads_placed (open_frame_lem nwk app counter) = refusal-placed _ _ tt _ (amends.opening f nwk app counter)
-  reads_placed (amend_frame_lem nwk app counter list) = refusal-placed _ _ tt _ (amends.amending_frame f nwk app counter list)
-  reads_placed command_lists_lem = lists_placed
+  reads_placed (data_mic key counter) = test_placed _ _ (opens.data_test key counter f)
+  reads_placed (decrypt_data nwk app counter) = opening_placed _ _ tt _ (opens.data_opening nwk app counter f)
+  reads_placed (decrypt_data_checked nwk app counter) = opening_placed _ _ tt _ (opens.checked_opening nwk app counter f)
+  reads_placed (decrypt_accept key) = opening_placed _ _ tt _ (opens.accept_opening key f)
+  reads_placed (decrypt_accept_checked key) = opening_placed _ _ tt _ (opens.checked_accept key f)
+  reads_placed (open_frame nwk app counter) = refusal-placed _ _ tt _ (amends.opening f nwk app counter)
+  reads_placed (amend_frame nwk app counter list) = refusal-placed _ _ tt _ (amends.amending_frame f nwk app counter list)
+  reads_placed command_lists = lists_placed
 
 -- ---- of a call that reads none
 
@@ -194,21 +194,21 @@ described_at_0 text out = by_bool (ltb (length out) text_room) (λ e. simp e ref
 
 others_at_0 : (c : Others) → (others_refusal c).place ≡ 0
 others_at_0 (amend s offset value) = refuses_at_0 (amends.amending s offset value)
-others_at_0 (amend_list_lem s list) = refuses_at_0 (amends.amending_list s list)
+others_at_0 (amend_list s list) = refuses_at_0 (amends.amending_list s list)
 others_at_0 (take_out s room) = refuses_at_0 (amends.taking s room)
-others_at_0 (build_data_lem nwk app d commands body room) =
+others_at_0 (build_data nwk app d commands body room) =
     built_at_0 (data_refusal_of d commands body room) (length (data_frame_of nwk app d commands body))
 others_at_0 (build_kind kind nwk app d commands body room) =
     built_at_0 (data_refused kind d commands body room) (length (data_frame_of nwk app d commands body))
 others_at_0 (build_request key j room) = built_at_0 (join_request_refusal room) (length (join_request_of key j))
 others_at_0 (build_accept key j channels room) =
     built_at_0 (join_accept_refusal_of j channels room) (length (join_accept_of key j channels))
-others_at_0 (write_command_lem c room place) = written_at_0 (command_written c room place) (commands.command_writes c room place)
-others_at_0 (write_fields_lem up id values room place) =
+others_at_0 (write_command c room place) = written_at_0 (command_written c room place) (commands.command_writes c room place)
+others_at_0 (write_fields up id values room place) =
     written_at_0 (fields_written up id values room place) (commands.fields_write up id values room place)
-others_at_0 (write_numbers_lem up zs room place) = written_at_0 (numbers_written up zs room place) (numbers.numbers_write up zs room place)
+others_at_0 (write_numbers up zs room place) = written_at_0 (numbers_written up zs room place) (numbers.numbers_write up zs room place)
 others_at_0 (describe f out) = described_at_0 (text_of f) out
-others_at_0 (describe_input_lem start n out) = described_at_0 (text_of_input start n) out
+others_at_0 (describe_input start n out) = described_at_0 (text_of_input start n) out
 
 -- ---- the theorem
 

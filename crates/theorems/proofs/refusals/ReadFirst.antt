@@ -18,30 +18,30 @@ use Rattle.frame.specs.declared.parser.Reading.{Reading}
 use Rattle.frame.specs.declared.parser.Reading.TheVariants.{JoinRequest, JoinAccept, Data, Refused}
 use Rattle.frame.proofs.ReadingLaws.{Says, answers, refusal_read, reads_request, reads_accept, reads_data}
 use Rattle.theorems.specs.Exactly.{Condition}
-use Rattle.theorems.specs.ByReading.{Needs, join_request_lem, join_accept_lem, data_frame_lem, Is, ByReading, keeps, other, of_reading, AfterReading}
+use Rattle.theorems.specs.ByReading.{Needs, join_request, join_accept, data_frame, Is, ByReading, keeps, other, of_reading, AfterReading}
 use Rattle.theorems.proofs.refusals.FirstDue as due
 use Rattle.theorems.proofs.refusals.ReadingRefusals.{passes, not_both}
 
 -- what a call gives that needs a frame of one type: x there, e at the refusal of any other
 abbrev pub on : {A : Type 0} → Needs → A → (Refusal → A) → Reading → A
-on join_request_lem x e r = on_request x e r
-on join_accept_lem x e r = on_accept (λ n. x) e r
-on data_frame_lem x e r = on_data (λ d. x) e r
+on join_request x e r = on_request x e r
+on join_accept x e r = on_accept (λ n. x) e r
+on data_frame x e r = on_data (λ d. x) e r
 
 -- ---- which frames are needed, and what reading gives of the others
 
 module _ (f : List ℕ) where
   -- the reading of a frame that is needed
   read_as : Needs → Reading
-  read_as join_request_lem = JoinRequest
-  read_as join_accept_lem = JoinAccept (length f)
-  read_as data_frame_lem = Data (data_of f)
+  read_as join_request = JoinRequest
+  read_as join_accept = JoinAccept (length f)
+  read_as data_frame = Data (data_of f)
 
   reads_as : (k : Needs) → Is k f → read_of f ≡ read_as k
   unfolding read_as
-  reads_as join_request_lem h = reads_request f h
-  reads_as join_accept_lem h = reads_accept f (length f) h
-  reads_as data_frame_lem h = reads_data f h
+  reads_as join_request h = reads_request f h
+  reads_as join_accept h = reads_accept f (length f) h
+  reads_as data_frame h = reads_data f h
 
   -- a join-accept has the length that it has
   own_length : (n : ℕ) → IsJoinAccept f n → IsJoinAccept f (length f)
@@ -53,21 +53,21 @@ module _ (f : List ℕ) where
 
   -- the frame is what is needed, or reading gives a refusal
   sorted : (k : Needs) (r : Reading) → read_of f ≡ r → Says f r → Is k f ⊎ ((s : Refusal) × ByReading k f s)
-  sorted join_request_lem JoinRequest q s = inl s
-  sorted join_request_lem (JoinAccept n) q s = inr (another join_request_lem (JoinAccept n) s refl (λ h. omega arith))
-  sorted join_request_lem (Data d) q s = inr (another join_request_lem (Data d) s refl (λ h. omega arith))
-  sorted join_request_lem (Refused r) q s = inr (r, keeps q)
-  sorted join_accept_lem JoinRequest q s = inr (another join_accept_lem JoinRequest s refl (λ h. omega arith))
-  sorted join_accept_lem (JoinAccept n) q s = inl (own_length n s)
-  sorted join_accept_lem (Data d) q s = inr (another join_accept_lem (Data d) s refl (λ h. omega arith))
-  sorted join_accept_lem (Refused r) q s = inr (r, keeps q)
-  sorted data_frame_lem JoinRequest q s = inr (another data_frame_lem JoinRequest s refl (λ h. omega arith))
-  sorted data_frame_lem (JoinAccept n) q s = inr (another data_frame_lem (JoinAccept n) s refl (λ h. omega arith))
-  sorted data_frame_lem (Data d) q s = inl s.0
-  sorted data_frame_lem (Refused r) q s = inr (r, keeps q)
+  sorted join_request JoinRequest q s = inl s
+  sorted join_request (JoinAccept n) q s = inr (another join_request (JoinAccept n) s refl (λ h. omega arith))
+  sorted join_request (Data d) q s = inr (another join_request (Data d) s refl (λ h. omega arith))
+  sorted join_request (Refused r) q s = inr (r, keeps q)
+  sorted join_accept JoinRequest q s = inr (another join_accept JoinRequest s refl (λ h. omega arith))
+  sorted join_accept (JoinAccept n) q s = inl (own_length n s)
+  sorted join_accept (Data d) q s = inr (another join_accept (Data d) s refl (λ h. omega arith))
+  sorted join_accept (Refused r) q s = inr (r, keeps q)
+  sorted data_frame JoinRequest q s = inr (another data_frame JoinRequest s refl (λ h. omega arith))
+  sorted data_frame (JoinAccept n) q s = inr (another data_frame (JoinAccept n) s refl (λ h. omega arith))
+  sorted data_frame (Data d) q s = inl s.0
+  sorted data_frame (Refused r) q s = inr (r, keeps q)
 
-  pub either_way_lem : (k : Needs) → Is k f ⊎ ((s : Refusal) × ByReading k f s)
-  either_way_lem k = sorted k (read_of f) refl (answers f)
+  pub either_way : (k : Needs) → Is k f ⊎ ((s : Refusal) × ByReading k f s)
+  either_way k = sorted k (read_of f) refl (answers f)
 
   -- the number that reading gives is one of its own
   of_fault : (x : Fault) → T (of_reading (number_of_fault x))
@@ -88,30 +88,30 @@ module _ {A : Type 0} (x : A) (e : Refusal → A) (f : List ℕ) where
   -- of a frame that is needed, x
   pub needed : (k : Needs) → Is k f → on k x e (read_of f) ≡ x
   unfolding read_as
-  needed join_request_lem h = ap (on join_request_lem x e) (reads_as f join_request_lem h)
-  needed join_accept_lem h = ap (on join_accept_lem x e) (reads_as f join_accept_lem h)
-  needed data_frame_lem h = ap (on data_frame_lem x e) (reads_as f data_frame_lem h)
+  needed join_request h = ap (on join_request x e) (reads_as f join_request h)
+  needed join_accept h = ap (on join_accept x e) (reads_as f join_accept h)
+  needed data_frame h = ap (on data_frame x e) (reads_as f data_frame h)
 
   -- of a refused reading, its own refusal
   keeps_refusal : (k : Needs) (r : Refusal) → on k x e (Refused r) ≡ e r
-  keeps_refusal join_request_lem r = refl
-  keeps_refusal join_accept_lem r = refl
-  keeps_refusal data_frame_lem r = refl
+  keeps_refusal join_request r = refl
+  keeps_refusal join_accept r = refl
+  keeps_refusal data_frame r = refl
 
   -- of a frame of another type, 4
   other_gives : (k : Needs) (r : Reading) → Says f r → Passes f → (Is k f → ⊥) → on k x e r ≡ e (refused 4)
-  other_gives join_request_lem JoinRequest s p n = absurd (n s)
-  other_gives join_request_lem (JoinAccept m) s p n = refl
-  other_gives join_request_lem (Data d) s p n = refl
-  other_gives join_request_lem (Refused r) s p n = absurd (not_both f r s p)
-  other_gives join_accept_lem JoinRequest s p n = refl
-  other_gives join_accept_lem (JoinAccept m) s p n = absurd (n (own_length f m s))
-  other_gives join_accept_lem (Data d) s p n = refl
-  other_gives join_accept_lem (Refused r) s p n = absurd (not_both f r s p)
-  other_gives data_frame_lem JoinRequest s p n = refl
-  other_gives data_frame_lem (JoinAccept m) s p n = refl
-  other_gives data_frame_lem (Data d) s p n = absurd (n s.0)
-  other_gives data_frame_lem (Refused r) s p n = absurd (not_both f r s p)
+  other_gives join_request JoinRequest s p n = absurd (n s)
+  other_gives join_request (JoinAccept m) s p n = refl
+  other_gives join_request (Data d) s p n = refl
+  other_gives join_request (Refused r) s p n = absurd (not_both f r s p)
+  other_gives join_accept JoinRequest s p n = refl
+  other_gives join_accept (JoinAccept m) s p n = absurd (n (own_length f m s))
+  other_gives join_accept (Data d) s p n = refl
+  other_gives join_accept (Refused r) s p n = absurd (not_both f r s p)
+  other_gives data_frame JoinRequest s p n = refl
+  other_gives data_frame (JoinAccept m) s p n = refl
+  other_gives data_frame (Data d) s p n = absurd (n s.0)
+  other_gives data_frame (Refused r) s p n = absurd (not_both f r s p)
 
   -- so what reading gives is handed on
   pub handed_on : (k : Needs) (r : Refusal) → ByReading k f r → on k x e (read_of f) ≡ e r
@@ -127,7 +127,7 @@ on_through h k f x e e' found =
     ap h (handed_on x e f k s.0 s.1)
     ∙ found s.0 (λ z. rw z at (reading_number f k s.0 s.1))
     ∙ sym (handed_on (h x) e' f k s.0 s.1))
-    (either_way_lem f k)
+    (either_way f k)
 
 -- ---- the law
 
@@ -148,7 +148,7 @@ module _ {A : Type 0} (e : Refusal → A) (says : ℕ → A) (told : A → Refus
                   (λ s.
                   subst (λ (t : Refusal). ByReading k f t)
                   (sym (told-e s.0) ∙ ap told (sym (handed_on x e f k s.0 s.1) ∙ q) ∙ told-e r) s.1)
-                  (either_way_lem f k);
+                  (either_way f k);
               back = handed_on x e f k r;
             };
         own =
@@ -162,7 +162,7 @@ module _ {A : Type 0} (e : Refusal → A) (says : ℕ → A) (told : A → Refus
                   sym (told-e s.0) ∙ ap told (sym (handed_on x e f k s.0 s.1) ∙ q) ∙ told-says n in
                   absurd
                   (due.refuted (of_reading n) (subst (λ (t : Refusal). T (of_reading t.number)) is (reading_number f k s.0 s.1)) p))
-                  (either_way_lem f k);
+                  (either_way f k);
               back = λ h. needed x e f k h.0 ∙ ((g h.0).exactly n).back h.1;
             };
       }

@@ -83,7 +83,7 @@ module _ (f : List ℕ) where
   not_found version h p = h.other p.not_2
   not_found type h p = omega arith
   not_found join_length h p = p.not_join h.wrong
-  not_found header h p = omega (arith, h.short, p.not_header h.data_frame_lem)
+  not_found header h p = omega (arith, h.short, p.not_header h.data_frame)
 
   pub not_both : (r : Refusal) → Gives f r → Passes f → ⊥
   not_both r g p = not_found g.fault g.found p

@@ -47,20 +47,20 @@ by_schedule v = ap (λ (w : List ℕ). signed w (body_under w v)) expansion_A1
 abbrev stream : List ℕ
 stream = 0x50 ∷ 0x02 ∷ 0x27 ∷ 0xed ∷ 0x79 ∷ 0x25 ∷ 0xa0 ∷ 0x12 ∷ 0x28 ∷ 0xf9 ∷ 0xb3 ∷ 0x1f ∷ 0x2f ∷ 0x77 ∷ 0xc7 ∷ 0xec ∷ []
 
-stream_block_lem : cipher schedule-A1 (helper_block_of 1 (header template) 0 1) ≡ stream
+stream_block : cipher schedule-A1 (helper_block_of 1 (header template) 0 1) ≡ stream
 unfolding xtime mul_bits mul from_bits affine row sub_listed shift_rows_of mix_columns_of add_round_key_of rounds_listed cipher_listed helper_block_of
-stream_block_lem = by_list schedule-A1 (helper_block_of 1 (header template) 0 1) bytes_A1 (omega arith) refl
+stream_block = by_list schedule-A1 (helper_block_of 1 (header template) 0 1) bytes_A1 (omega arith) refl
 
 abbrev body_of : ℕ → List ℕ
 body_of b = 0x40 ∷ 1 ∷ 2 ∷ 3 ∷ 4 ∷ 0 ∷ 0 ∷ 0 ∷ 1 ∷ b ∷ []
 
 body_1 : body_under schedule-A1 1 ≡ body_of 0x51
 unfolding masked
-body_1 = ap (λ (s : List ℕ). header template ++ masked (1 ∷ []) (λ j. at s (j % 16))) stream_block_lem
+body_1 = ap (λ (s : List ℕ). header template ++ masked (1 ∷ []) (λ j. at s (j % 16))) stream_block
 
 body_2 : body_under schedule-A1 2 ≡ body_of 0x52
 unfolding masked
-body_2 = ap (λ (s : List ℕ). header template ++ masked (2 ∷ []) (λ j. at s (j % 16))) stream_block_lem
+body_2 = ap (λ (s : List ℕ). header template ++ masked (2 ∷ []) (λ j. at s (j % 16))) stream_block
 
 -- ---- the tags: B_0 is one block, and the same for both, the frame is the other
 

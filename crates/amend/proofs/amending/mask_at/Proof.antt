@@ -15,8 +15,8 @@ returns c =
     let args = c.before.before.before.args in
     let ks = args.schedule.now in
     ap (λ (s : List ℕ). at s (args.k % 16))
-    (c.stream_block_lem.ensures
-    ∙ ap (λ (s : List ℕ). stream_block_of ks s args.counter args.k) c.before.start_of_lem.ensures
+    (c.stream_block.ensures
+    ∙ ap (λ (s : List ℕ). stream_block_of ks s args.counter args.k) c.before.start_of.ensures
     ∙ stream_block_of_start ks args.frame.now args.counter args.k)
 
 pub mask-at-spec : {M : Type 1} → statement M

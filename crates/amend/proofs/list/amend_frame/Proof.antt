@@ -5,7 +5,7 @@ use native.Mathlib.Omega.{arith}
 use borrow.Author.Rules.{rules}
 use lib.ListN.{length, take}
 use lib.Seq.{length-take-le}
-use Rattle.amend.proofs.ListLaws.{accepted_most, refused_opening_lem, empty_list, whole_list, refused_list, whole_stored}
+use Rattle.amend.proofs.ListLaws.{accepted_most, refused_opening, empty_list, whole_list, refused_list, whole_stored}
 use Rattle.amend.proofs.list.amend_frame.Statement.{statement}
 use Rattle.amend.proofs.list.amend_frame.Tie as tie
 
@@ -13,8 +13,8 @@ returns : tie.Need-returns
 returns c =
     let opened = c.before.before.before in
     let args = opened.before.before.before.before.args in
-    let o = opened.open_frame_lem in
-    refused_opening_lem args.frame.now args.nwk-skey args.app-skey args.counter args.amendments.now o.result o.ensures
+    let o = opened.open_frame in
+    refused_opening args.frame.now args.nwk-skey args.app-skey args.counter args.amendments.now o.result o.ensures
     c.if1.true
 
 returns-2 : tie.Need-returns-2
@@ -22,23 +22,23 @@ returns-2 c =
     let tested = c.before in
     let opened = tested.before.before.before in
     let args = opened.before.before.before.before.args in
-    let o = opened.open_frame_lem in
+    let o = opened.open_frame in
     empty_list args.frame.now args.nwk-skey args.app-skey args.counter args.amendments.now o.result o.ensures
     tested.if1.false c.if2.true
 
 -- the frame in the last state has 255 bytes
-held_long : (c : tie.After-amend-list) → length c.amend_list_lem.result.state.frame ≡ 255
+held_long : (c : tie.After-amend-list) → length c.amend_list.result.state.frame ≡ 255
 held_long c = search rules
 
 -- and the lent one no more
 fits : (c : tie.After-amend-list)
     → length c.before.before.before.before.before.before.before.before.before.before.args.frame.now
-    ≤ length c.amend_list_lem.result.state.frame
+    ≤ length c.amend_list.result.state.frame
 fits c =
     let tested = c.before.before.before in
     let opened = tested.before.before.before in
     let args = opened.before.before.before.before.args in
-    let o = opened.open_frame_lem in
+    let o = opened.open_frame in
     let most : length args.frame.now ≤ 255 =
     accepted_most args.frame.now args.nwk-skey args.app-skey args.counter args.amendments.now o.result o.ensures
     tested.if1.false in
@@ -60,8 +60,8 @@ returns-3 c =
     let opened = tested.before.before.before in
     let args = opened.before.before.before.before.args in
     let f = args.frame.now in
-    let o = opened.open_frame_lem in
-    let a = listed.amend_list_lem in
+    let o = opened.open_frame in
+    let a = listed.amend_list in
     let held = a.result.state.frame in
     let law = whole_list f args.nwk-skey args.app-skey args.counter args.amendments.now o.result o.ensures
     tested.if1.false a.result a.ensures whole.if3.true in (
@@ -75,8 +75,8 @@ returns-4 c =
     let tested = listed.before.before.before in
     let opened = tested.before.before.before in
     let args = opened.before.before.before.before.args in
-    let o = opened.open_frame_lem in
-    let a = listed.amend_list_lem in
+    let o = opened.open_frame in
+    let a = listed.amend_list in
     refused_list args.frame.now args.nwk-skey args.app-skey args.counter args.amendments.now o.result o.ensures
     tested.if1.false
     a.result

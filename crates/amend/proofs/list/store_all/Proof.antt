@@ -11,7 +11,7 @@ network c =
     let chosen = c.before.before.before.before in
     let first = chosen.before.before.before in
     let args = first.before.before.before.before.args in
-    stored_by args.frame.now args.counter args.start args.amendments.now first.start_of_lem.ensures
+    stored_by args.frame.now args.counter args.start args.amendments.now first.start_of.ensures
     (key_network args.frame.now args.count _ _ (sym chosen.before.by-network-key.ensures ∙ chosen.if1.true))
     c.before.before.store-under.ensures
 
@@ -20,7 +20,7 @@ application c =
     let chosen = c.before.before.before.before in
     let first = chosen.before.before.before in
     let args = first.before.before.before.before.args in
-    stored_by args.frame.now args.counter args.start args.amendments.now first.start_of_lem.ensures
+    stored_by args.frame.now args.counter args.start args.amendments.now first.start_of.ensures
     (key_application args.frame.now args.count _ _ (sym chosen.before.by-network-key.ensures ∙ chosen.if1.false))
     c.before.before.store-under2.ensures
 

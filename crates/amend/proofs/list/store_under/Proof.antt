@@ -73,14 +73,14 @@ loop-again-2 c =
     let k = at es l.i / 256 in
     let t = there c.before.before in
     let ks = args.schedule.now in
-    let block = block_in_hand ks args.first args.counter k c.stream_block_lem.ensures in (
+    let block = block_in_hand ks args.first args.counter k c.stream_block.ensures in (
       search rules,
       length-set l.frame (args.start + k) _ ∙ l.invariant.1,
       search rules,
       block,
       t.rest,
       stored_on es l.i (search rules) ks args.first args.counter args.start l.frame
-          (stream_in_hand ks args.first args.counter (at es l.i % 256) k (k / 16) c.stream_block_lem.result block t.least refl)
+          (stream_in_hand ks args.first args.counter (at es l.i % 256) k (k / 16) c.stream_block.result block t.least refl)
           ∙ l.invariant.5,
     )
 

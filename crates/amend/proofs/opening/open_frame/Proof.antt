@@ -11,7 +11,7 @@ use Rattle.frame.specs.declared.parser.Reading.TheVariants.{Data}
 use Rattle.frame.proofs.ReadingLaws.{data_read}
 use Rattle.frame.specs.contracts.parser.Reading as R
 use Rattle.amend.specs.OpenFrame.{refused_opening}
-use Rattle.amend.proofs.OpeningLaws.{open_data_lem, open_other, counter_right, counter_wrong, read_fcnt_lem}
+use Rattle.amend.proofs.OpeningLaws.{open_data_lem, open_other, counter_right, counter_wrong, read_fcnt}
 use Rattle.amend.proofs.opening.open_frame.Statement.{statement}
 use Rattle.amend.proofs.opening.open_frame.Tie as tie
 
@@ -42,7 +42,7 @@ returns-2 c =
     c.open-checked.ensures
     ∙ sym
     (open_data_lem f args.nwk-skey args.app-skey args.counter (data_read f is)
-    ∙ counter_right f args.nwk-skey args.app-skey args.counter (c.before.if1.true ∙ read_fcnt_lem f is))
+    ∙ counter_right f args.nwk-skey args.app-skey args.counter (c.before.if1.true ∙ read_fcnt f is))
 
 returns-3 : tie.Need-returns-3
 returns-3 c =
@@ -54,7 +54,7 @@ returns-3 c =
     ∙ sym
     (open_data_lem f args.nwk-skey args.app-skey args.counter (data_read f is)
     ∙ counter_wrong f args.nwk-skey args.app-skey args.counter
-    (λ q. c.before.if1.false (q ∙ sym (read_fcnt_lem f is))))
+    (λ q. c.before.if1.false (q ∙ sym (read_fcnt f is))))
 
 pub open-frame-spec : {M : Type 1} → statement M
 open-frame-spec =

@@ -14,8 +14,8 @@ returns c =
     let next = c.before.before.before.before in
     let args = next.before.before.before.before.args in
     let b = args.buffer.now in
-    let made : next.amend_list_lem.result ≡ amend_list_of (loaded_open b) args.amendments.now =
-    next.amend_list_lem.ensures ∙ ap (λ (s : Open). amend_list_of s args.amendments.now) next.before.load.ensures in
+    let made : next.amend_list.result ≡ amend_list_of (loaded_open b) args.amendments.now =
+    next.amend_list.ensures ∙ ap (λ (s : Open). amend_list_of s args.amendments.now) next.before.load.ensures in
     (ap (λ (a : Amended). a.refusal) made, c.settle.ensures ∙ ap (λ (a : Amended). amended_into a b) made)
 
 pub amend-list-held-spec : {M : Type 1} → statement M

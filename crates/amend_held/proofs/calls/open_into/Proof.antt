@@ -9,7 +9,7 @@ use Rattle.amend_held.proofs.calls.open_into.Tie as tie
 returns : tie.Need-returns
 returns c =
     let opened = c.before.before.before.before in
-    let made = opened.open_frame_lem.ensures in
+    let made = opened.open_frame.ensures in
     let b = opened.before.before.args.buffer.now in
     (ap (λ (o : Opened). o.refusal) made, c.settle.ensures ∙ ap (λ (o : Opened). opened_into o b) made)
 

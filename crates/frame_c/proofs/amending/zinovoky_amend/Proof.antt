@@ -8,7 +8,7 @@ use Rattle.frame_c.proofs.amending.zinovoky_amend.Tie as tie
 
 returns : tie.Need-returns
 returns c =
-    (c.refusal-answer.ensures ∙ ap refusal_answer_of c.before.before.before.amend_frame_lem.ensures.0, c.before.before.before.amend_frame_lem.ensures.1)
+    (c.refusal-answer.ensures ∙ ap refusal_answer_of c.before.before.before.amend_frame.ensures.0, c.before.before.before.amend_frame.ensures.1)
 
 pub zinovoky-amend-spec : {M : Type 1} → statement M
 zinovoky-amend-spec = tie.close (tie.spec (λ c κs. search rules) (λ c κs. search rules) (λ c. search rules) returns)

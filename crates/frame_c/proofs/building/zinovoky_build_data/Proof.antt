@@ -25,7 +25,7 @@ returns-3 c =
     let start = tested.before.before.before.before in
     let a = start.args in
     let parts = at-data-parts.data-parts.ensures in
-    made at-build-data.build_data_lem.ensures.0
+    made at-build-data.build_data.ensures.0
     (ap (λ (d : DataParts). data_refusal_of d a.commands.now a.payload.now (length a.out.now)) parts
     ∙ sym (of_data _ _ _ _ _ tested.if1.false tested2.if2.false))
     (ap (λ (d : DataParts). data_frame_of a.nwk-skey.now a.app-skey.now d a.commands.now a.payload.now) parts)

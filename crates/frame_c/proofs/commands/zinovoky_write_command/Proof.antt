@@ -8,7 +8,7 @@ use Rattle.frame_c.proofs.commands.zinovoky_write_command.Tie as tie
 
 returns : tie.Need-returns
 returns c =
-    let written = c.before.before.before.write_numbers_lem.ensures in
+    let written = c.before.before.before.write_numbers.ensures in
     (c.written-answer.ensures ∙ ap written_answer_of written.0, written.1)
 
 pub zinovoky-write-command-spec : {M : Type 1} → statement M

@@ -6,7 +6,7 @@ use Rattle.frame_c.proofs.opening.zinovoky_data_mic.Statement.{statement}
 use Rattle.frame_c.proofs.opening.zinovoky_data_mic.Tie as tie
 
 returns : tie.Need-returns
-returns c = tested _ c.before.before.data_mic_lem.ensures c.test-answer.ensures.0 c.test-answer.ensures.1
+returns c = tested _ c.before.before.data_mic.ensures c.test-answer.ensures.0 c.test-answer.ensures.1
 
 pub zinovoky-data-mic-spec : {M : Type 1} → statement M
 zinovoky-data-mic-spec = tie.close (tie.spec (λ c κs. search rules) (λ c κs. search rules) returns)

@@ -9,7 +9,7 @@ use Rattle.frame_c.proofs.opening.zinovoky_decrypt_data.Tie as tie
 
 returns : tie.Need-returns
 unfolding nwk_given app_given
-returns c = opened c.before.before.before.decrypt_data_lem.ensures refl c.opening-answer.ensures
+returns c = opened c.before.before.before.decrypt_data.ensures refl c.opening-answer.ensures
 
 pub zinovoky-decrypt-data-spec : {M : Type 1} → statement M
 zinovoky-decrypt-data-spec = tie.close (tie.spec (λ c κs. search rules) (λ c κs. search rules) (λ c. search rules) returns)

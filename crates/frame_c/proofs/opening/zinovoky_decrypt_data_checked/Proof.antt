@@ -9,7 +9,7 @@ use Rattle.frame_c.proofs.opening.zinovoky_decrypt_data_checked.Tie as tie
 
 returns : tie.Need-returns
 unfolding app_given
-returns c = opened c.before.before.before.decrypt_data_checked_lem.ensures refl c.opening-answer.ensures
+returns c = opened c.before.before.before.decrypt_data_checked.ensures refl c.opening-answer.ensures
 
 pub zinovoky-decrypt-data-checked-spec : {M : Type 1} → statement M
 zinovoky-decrypt-data-checked-spec = tie.close (tie.spec (λ c κs. search rules) (λ c κs. search rules) (λ c. search rules) returns)

@@ -6,7 +6,7 @@ use Rattle.frame_c.proofs.opening.zinovoky_session_keys.Statement.{statement}
 use Rattle.frame_c.proofs.opening.zinovoky_session_keys.Tie as tie
 
 returns : tie.Need-returns
-returns c = keys_into c.before.before.before.before.session_keys_lem.ensures c.before.before.store-keys.ensures
+returns c = keys_into c.before.before.before.before.session_keys.ensures c.before.before.store-keys.ensures
 
 pub zinovoky-session-keys-spec : {M : Type 1} → statement M
 zinovoky-session-keys-spec = tie.close (tie.spec (λ c κs. search rules) (λ c κs. search rules) (λ c. search rules) returns)

@@ -13,7 +13,7 @@ returns c =
     let m = c.before.before in
     let a = m.before.before.before.args in
     ap (λ (o : Opening). result o a.frame.now) c.opening-after.ensures
-    ∙ checked_refuses a.nwk-skey a.app-skey a.counter a.frame.now m.data_mic_lem.result m.data_mic_lem.ensures
+    ∙ checked_refuses a.nwk-skey a.app-skey a.counter a.frame.now m.data_mic.result m.data_mic.ensures
     c.before.match.keys2
 
 returns-2 : tie.Need-returns-2
@@ -21,9 +21,9 @@ returns-2 c =
     let e = c.before.before.before.before in
     let m = e.before.before in
     let a = m.before.before.before.args in
-    c.before.before.decrypt_data_lem.ensures
+    c.before.before.decrypt_data.ensures
     ∙ checked_opens a.nwk-skey a.app-skey a.counter a.frame.now
-    (sym e.enum_told.given.1 ∙ m.data_mic_lem.ensures)
+    (sym e.enum_told.given.1 ∙ m.data_mic.ensures)
 
 pub decrypt-data-checked-spec : {M : Type 1} → statement M
 decrypt-data-checked-spec =

@@ -3,7 +3,7 @@
 -- Assumes nothing.
 use mathlib.Core.Path.{sym, ap, ◌∙◌}
 use Rattle.frame_opening.specs.FrameOpening.{unopened, result}
-use Rattle.frame_opening.proofs.OpeningLaws.{no_accept_lem, a_accept}
+use Rattle.frame_opening.proofs.OpeningLaws.{no_accept, a_accept}
 use Rattle.frame_opening.specs.CheckedOpening.{accept_tested, accept_opened_checked}
 use Rattle.frame_opening.proofs.CheckedLaws.{accept_read_long}
 use Rattle.frame_opening.specs.declared.payload.Opening.{Opening}
@@ -18,7 +18,7 @@ returns c =
     let a = r.before.before.before.args in
     let f = a.frame.now in
     ap (λ (o : Opening). result o f) c.no-opening.ensures
-    ∙ no_accept_lem (unopened f) f r.read.result r.read.ensures (λ n. accept_tested a.app-key f)
+    ∙ no_accept (unopened f) f r.read.result r.read.ensures (λ n. accept_tested a.app-key f)
     c.before.match.keys2
 
 open-accept-tested-requires : tie.Need-open-accept-tested-requires

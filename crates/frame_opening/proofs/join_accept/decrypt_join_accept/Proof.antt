@@ -6,7 +6,7 @@ use Rattle.frame_security.specs.JoinAcceptCipher.{accept_decrypted}
 use Rattle.frame_opening.specs.JoinAcceptOpening.{accept_opened}
 use Rattle.frame_opening.specs.FrameOpening.{result, unopened}
 use Rattle.frame_opening.specs.declared.payload.Opening.TheVariants.{Opened}
-use Rattle.frame_opening.proofs.OpeningLaws.{no_accept_lem, a_accept, accept_length}
+use Rattle.frame_opening.proofs.OpeningLaws.{no_accept, a_accept, accept_length}
 use Rattle.frame_opening.specs.declared.payload.Opening.{Opening}
 use borrow.Author.Rules.{rules}
 use Rattle.frame_opening.proofs.join_accept.decrypt_join_accept.Statement.{statement}
@@ -19,7 +19,7 @@ returns c =
     let a = r.before.before.before.args in
     let f = a.frame.now in
     ap (λ (o : Opening). result o f) c.no-opening.ensures
-    ∙ no_accept_lem (unopened f) f r.read.result r.read.ensures (λ n. result Opened (accept_decrypted a.app-key f))
+    ∙ no_accept (unopened f) f r.read.result r.read.ensures (λ n. result Opened (accept_decrypted a.app-key f))
     c.before.match.keys2
 
 decrypt-accept-requires : tie.Need-decrypt-accept-requires
@@ -37,7 +37,7 @@ returns-2 c =
     let r = t.before.before in
     let a = r.before.before.before.args in
     let f = a.frame.now in
-    ap (result Opened) c.before.before.decrypt_accept_lem.ensures
+    ap (result Opened) c.before.before.decrypt_accept.ensures
     ∙ a_accept (unopened f) f r.read.result r.read.ensures (λ n. result Opened (accept_decrypted a.app-key f))
     t.enum_told.given.1
 

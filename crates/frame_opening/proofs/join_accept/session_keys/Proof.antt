@@ -4,7 +4,7 @@
 use mathlib.Core.Path.{sym, ◌∙◌}
 use native.Mathlib.Omega.{arith}
 use Rattle.frame_opening.specs.SessionKeys.{derived_keys, no_keys_of, session_keys_of}
-use Rattle.frame_opening.proofs.OpeningLaws.{no_accept_lem, a_accept, accept_length}
+use Rattle.frame_opening.proofs.OpeningLaws.{no_accept, a_accept, accept_length}
 use borrow.Author.Rules.{rules}
 use Rattle.frame_opening.proofs.join_accept.session_keys.Statement.{statement}
 use Rattle.frame_opening.proofs.join_accept.session_keys.Tie as tie
@@ -15,7 +15,7 @@ returns c =
     let r = c.before.before in
     let a = r.before.before.args in
     c.no_keys.ensures
-    ∙ no_accept_lem no_keys_of a.frame.now r.read.result r.read.ensures
+    ∙ no_accept no_keys_of a.frame.now r.read.result r.read.ensures
     (λ n. derived_keys a.app-key a.dev-nonce a.frame.now) c.before.match.keys2
 
 derive-keys-requires : tie.Need-derive-keys-requires

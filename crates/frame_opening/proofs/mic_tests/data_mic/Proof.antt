@@ -5,7 +5,7 @@ use mathlib.Core.Path.{sym, ◌∙◌}
 use native.Mathlib.Omega.{arith}
 use Rattle.frame_opening.specs.FrameOpening.{data_passes, answered, data_test_of}
 use Rattle.frame_opening.specs.declared.mic_tests.MicTest.TheVariants.{Refused}
-use Rattle.frame_opening.proofs.OpeningLaws.{no_data, a_data, data_length_lem}
+use Rattle.frame_opening.proofs.OpeningLaws.{no_data, a_data, data_length}
 use borrow.Author.Rules.{rules}
 use Rattle.frame_opening.proofs.mic_tests.data_mic.Statement.{statement}
 use Rattle.frame_opening.proofs.mic_tests.data_mic.Tie as tie
@@ -22,14 +22,14 @@ returns c =
 data-test-requires : tie.Need-data-test-requires
 data-test-requires c κs =
     let r = c.before.before in
-    omega (arith, data_length_lem r.before.before.args.frame.now (sym r.read.ensures ∙ c.enum_told.given.1))
+    omega (arith, data_length r.before.before.args.frame.now (sym r.read.ensures ∙ c.enum_told.given.1))
 
 returns-2 : tie.Need-returns-2
 unfolding data_test_of
 returns-2 c =
     let r = c.before.before.before in
     let a = r.before.before.args in
-    c.data_test_lem.ensures
+    c.data_test.ensures
     ∙ a_data Refused a.frame.now r.read.result r.read.ensures
     (λ d. answered (data_passes a.nwk-skey a.counter a.frame.now)) c.before.enum_told.given.1
 

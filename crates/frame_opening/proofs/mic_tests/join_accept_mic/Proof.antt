@@ -5,7 +5,7 @@ use mathlib.Core.Path.{sym, ◌∙◌}
 use native.Mathlib.Omega.{arith}
 use Rattle.frame_opening.specs.FrameOpening.{join_passes, answered, join_accept_test}
 use Rattle.frame_opening.specs.declared.mic_tests.MicTest.TheVariants.{Refused}
-use Rattle.frame_opening.proofs.OpeningLaws.{no_accept_lem, a_accept, accept_length}
+use Rattle.frame_opening.proofs.OpeningLaws.{no_accept, a_accept, accept_length}
 use borrow.Author.Rules.{rules}
 use Rattle.frame_opening.proofs.mic_tests.join_accept_mic.Statement.{statement}
 use Rattle.frame_opening.proofs.mic_tests.join_accept_mic.Tie as tie
@@ -16,7 +16,7 @@ returns c =
     let r = c.before.before in
     let a = r.before.before.args in
     c.no_test.ensures
-    ∙ no_accept_lem Refused a.frame.now r.read.result r.read.ensures
+    ∙ no_accept Refused a.frame.now r.read.result r.read.ensures
     (λ n. answered (join_passes a.app-key a.frame.now)) c.before.match.keys2
 
 join-test-requires : tie.Need-join-test-requires

@@ -5,7 +5,7 @@ use native.Mathlib.Omega.{arith}
 use lib.ListN.{length-take}
 use borrow.Author.Rules.{rules}
 use Rattle.frame_security.proofs.SecurityLaws.{key_network, key_application}
-use Rattle.frame_opening.proofs.OpeningLaws.{fopts_place, mic_place_lem, chosen}
+use Rattle.frame_opening.proofs.OpeningLaws.{fopts_place, mic_place, chosen}
 use Rattle.frame_opening.proofs.payload.key_of.Statement.{statement}
 use Rattle.frame_opening.proofs.payload.key_of.Tie as tie
 
@@ -18,7 +18,7 @@ header-fits : tie.Need-slice-aggregate-by-network-key
 header-fits c =
     let s = c.before.before.before in
     simp length-take
-    (omega (arith, mic_place_lem s.args.frame.now s.args.fields s.requires.1, c.before.header-end.ensures, s.requires.0.least))
+    (omega (arith, mic_place s.args.frame.now s.args.fields s.requires.1, c.before.header-end.ensures, s.requires.0.least))
 
 ahead-of-mic : tie.Need-overflow-sub-by-network-key
 ahead-of-mic c = omega (arith, c.before.before.header-end.ensures)

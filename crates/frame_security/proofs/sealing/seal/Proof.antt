@@ -21,8 +21,8 @@ no_room c = laws.seal_no_room _ _ _ _ _ _ c.before.before.before.if1.false c.bef
 
 inside : tie.Need-returns-5
 inside c =
-    c.before.before.seal_inside_lem.ensures
-    ∙ sym (laws.seal_inside_lem _ _ _ _ _ _ (search rules) (search rules) (omega arith))
+    c.before.before.seal_inside.ensures
+    ∙ sym (laws.seal_inside _ _ _ _ _ _ (search rules) (search rules) (omega arith))
 
 pub seal-spec : {M : Type 1} → statement M
 seal-spec =

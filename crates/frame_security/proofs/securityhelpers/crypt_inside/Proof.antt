@@ -23,7 +23,7 @@ returns c =
     put_back args.start args.end f t start.requires.0
     ∙ ap (λ (l : List ℕ). take args.start f ++ l ++ drop args.end f)
     (c.before.before.encrypt-frm-data-payload.ensures
-    ∙ ap (λ (s : List ℕ). crypted args.key s args.counter p) c.before.before.before.before.start_of_lem.ensures
+    ∙ ap (λ (s : List ℕ). crypted args.key s args.counter p) c.before.before.before.before.start_of.ensures
     ∙ crypted_start args.key f args.counter p)
 
 pub crypt-inside-spec : {M : Type 1} → statement M

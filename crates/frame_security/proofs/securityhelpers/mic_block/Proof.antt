@@ -18,7 +18,7 @@ returns c =
     let m = a.message.now in
     let n = length m % 256 in
     c.helper-block.ensures
-    ∙ ap (λ (f : List ℕ). helper_block_of 0x49 f a.counter n) s.start_of_lem.ensures
+    ∙ ap (λ (f : List ℕ). helper_block_of 0x49 f a.counter n) s.start_of.ensures
     ∙ helper_block_of_start 0x49 m a.counter n
 
 pub mic-block-spec : {M : Type 1} → statement M

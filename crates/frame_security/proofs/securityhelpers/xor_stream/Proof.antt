@@ -30,12 +30,12 @@ loop-again c =
     let args = head.before.before.args in
     let i = head.loop.i in
     let end = turn.before.block-end.result in
-    let s = turn.stream_block_lem.result in
+    let s = turn.stream_block.result in
     let whole : i % 16 ≡ 0 = head.loop.invariant.1 (search rules) in (
       step_part end s head.loop.invariant.0 (search rules) (search rules)
           (λ k l.
           stream_at_block args.schedule.now args.start args.counter i k whole (omega arith)
-          ∙ ap (λ (b : List ℕ). at b k) (sym turn.stream_block_lem.ensures))
+          ∙ ap (λ (b : List ℕ). at b k) (sym turn.stream_block.ensures))
           c.before.before.xor_block.ensures,
       λ l. omega arith,
     )

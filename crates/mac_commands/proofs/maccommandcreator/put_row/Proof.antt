@@ -5,7 +5,7 @@ use Prim.Native.Nat.{ℕ, ◌+◌, ◌≤◌, ◌<◌}
 use native.Mathlib.Omega.{arith}
 use lib.ListN.{length, length-set}
 use borrow.Author.Rules.{rules}
-use Rattle.base.proofs.Put.{put_length_lem}
+use Rattle.base.proofs.Put.{put_length}
 use Rattle.mac_commands.proofs.WriteLaws.{room, no_room}
 use Rattle.mac_commands.proofs.maccommandcreator.put_row.Statement.{statement}
 use Rattle.mac_commands.proofs.maccommandcreator.put_row.Tie as tie
@@ -33,7 +33,7 @@ put-number-requires c κs =
     simp length-set (omega (arith, c.before.before.before.type_size.ensures, c.before.if2.false))
 
 same_length : tie.Need-same-length
-same_length c = put_length_lem c.before.before.put-number.ensures ∙ simp length-set
+same_length c = put_length c.before.before.put-number.ensures ∙ simp length-set
 
 returns-3 : tie.Need-returns-3
 returns-3 c =

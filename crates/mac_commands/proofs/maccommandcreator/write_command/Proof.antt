@@ -8,13 +8,13 @@ use Rattle.mac_commands.proofs.maccommandcreator.write_command.Tie as tie
 
 write-row-requires : tie.Need-write-row-requires
 write-row-requires c κs =
-    rw c.before.before.fields_of_lem.ensures (shaped c.before.before.before.before.args.command).known
+    rw c.before.before.fields_of.ensures (shaped c.before.before.before.before.args.command).known
 
 returns : tie.Need-returns
 returns c =
     let b = c.before.before.before.before.before in
     let e = c.before.before.write-row.ensures in
-    (e.0 ∙ rw b.fields_of_lem.ensures, e.1 ∙ rw b.fields_of_lem.ensures)
+    (e.0 ∙ rw b.fields_of.ensures, e.1 ∙ rw b.fields_of.ensures)
 
 pub write-command-spec : {M : Type 1} → statement M
 write-command-spec =

@@ -36,7 +36,7 @@ read-row-requires c κs = (
 
 returns-3 : tie.Need-returns-3
 returns-3 c =
-    c.read_row_lem.ensures
+    c.read_row.ensures
     ∙ rw c.before.row_of_lem.ensures
     (sym
     (raw_known _ _ _ c.before.before.before.before.before.if1.false

@@ -7,7 +7,7 @@ use borrow.Author.Rules.{rules}
 use lib.ListN.{length}
 use Rattle.frame_build.specs.GivenParts.{DataGiven}
 use Rattle.frame_build.proofs.DataRefusals.{Roomy, roomy}
-use Rattle.frame_security.proofs.SealingLaws.{seal_inside_lem}
+use Rattle.frame_security.proofs.SealingLaws.{seal_inside}
 use Rattle.frame_build.proofs.DataBuiltLaws.{not_built, built, sealed_built}
 use Rattle.frame_build.proofs.creator.data_frame.build_data.Statement.{statement}
 use Rattle.frame_build.proofs.creator.data_frame.build_data.Tie as tie
@@ -50,7 +50,7 @@ returns-2 c =
       built tested.before.data-refusal.ensures tested.if1.false
           (sealed_built _ _ _ _ _ _ _ _ _ _ filled.fill.ensures (ap (λ (n : ℕ). end - n) body.body-length.ensures) k.within
           (sealed.seal.ensures
-          ∙ seal_inside_lem _ _ _ _ _ _ (omega (arith, k, filled.fill.ensures.next, body.body-length.ensures))
+          ∙ seal_inside _ _ _ _ _ _ (omega (arith, k, filled.fill.ensures.next, body.body-length.ensures))
           (omega (arith, body.body-length.ensures)) (omega (arith, k, filled.fill.ensures.next, filled.fill.auto)))),
       sizes tested.before.before.before.before.before,
     )

@@ -5,7 +5,7 @@ use mathlib.Core.Path.{refl, sym, ◌∙◌}
 use Prim.Native.Nat.{◌+◌, ◌≤◌}
 use native.Mathlib.Omega.{arith}
 use lib.ListN.{length}
-use Rattle.base.proofs.Put.{put_length_lem}
+use Rattle.base.proofs.Put.{put_length}
 use Rattle.frame_build.specs.GivenParts.{AcceptGiven}
 use Rattle.frame_build.specs.JoinBuilding.{join_accept_body}
 use Rattle.frame_build.proofs.DataBuiltLaws.{not_built, built}
@@ -49,7 +49,7 @@ fill-accept-requires : tie.Need-fill-accept-requires
 fill-accept-requires c κs = accept_room _ _ _ (sym c.before.before.join-accept-refusal.ensures ∙ c.before.if1.false)
 
 sign-requires : tie.Need-sign-requires
-sign-requires c κs = omega (arith, sizes c.before.before.before.before.before, c.before.before.before.fill-accept.ensures.next, put_length_lem c.before.before.before.fill-accept.ensures)
+sign-requires c κs = omega (arith, sizes c.before.before.before.before.before, c.before.before.before.fill-accept.ensures.next, put_length c.before.before.before.fill-accept.ensures)
 
 -- the frame has a byte 1
 sub-each-block : tie.Need-overflow-sub-each-block
@@ -59,7 +59,7 @@ part-each-block-start : tie.Need-slice-bounds-each-block-start
 part-each-block-start c = omega (arith, mic_next _ _ c.before.before.sign.ensures)
 
 part-each-block-end : tie.Need-slice-bounds-each-block-end
-part-each-block-end c = omega (arith, sizes c.before.before.before.before.before.before.before.before, c.before.before.before.before.before.before.fill-accept.ensures.next, put_length_lem c.before.before.before.before.before.before.fill-accept.ensures, mic_next _ _ c.before.before.sign.ensures, put_length_lem c.before.before.sign.ensures)
+part-each-block-end c = omega (arith, sizes c.before.before.before.before.before.before.before.before, c.before.before.before.before.before.before.fill-accept.ensures.next, put_length c.before.before.before.before.before.before.fill-accept.ensures, mic_next _ _ c.before.before.sign.ensures, put_length c.before.before.sign.ensures)
 
 returns-2 : tie.Need-returns-2
 returns-2 c =

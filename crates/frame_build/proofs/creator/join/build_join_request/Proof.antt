@@ -3,7 +3,7 @@
 use mathlib.Core.Path.{◌≡◌, refl}
 use native.Mathlib.Omega.{arith}
 use lib.ListN.{length}
-use Rattle.base.proofs.Put.{put_length_lem}
+use Rattle.base.proofs.Put.{put_length}
 use Rattle.frame_build.specs.GivenParts.{RequestGiven}
 use Rattle.frame_build.specs.JoinBuilding.{join_request_body}
 use Rattle.frame_build.proofs.DataBuiltLaws.{not_built, built}
@@ -23,7 +23,7 @@ returns : tie.Need-returns
 returns c = (not_built (request_refused _ c.if1.true) seven, given c.before.before)
 
 sign-requires : tie.Need-sign-requires
-sign-requires c κs = omega (arith, c.before.before.before.fill-request.ensures.next, put_length_lem c.before.before.before.fill-request.ensures, long c.before.before.before.before.before.before.before, c.before.before.before.before.before.if1.false)
+sign-requires c κs = omega (arith, c.before.before.before.fill-request.ensures.next, put_length c.before.before.before.fill-request.ensures, long c.before.before.before.before.before.before.before, c.before.before.before.before.before.if1.false)
 
 returns-2 : tie.Need-returns-2
 returns-2 c =

@@ -16,7 +16,7 @@ abbrev decreases-loop : tie.decreases-loop
 decreases-loop channels r₀ i₀ r i = 16 - i
 
 loop-again : tie.Need-loop-preserved invariant-loop decreases-loop
-loop-again c = step c.before.before.loop.invariant (search rules) c.list_byte_lem.ensures
+loop-again c = step c.before.before.loop.invariant (search rules) c.list_byte.ensures
 
 returns : tie.Need-returns invariant-loop decreases-loop
 returns c = done c.before.loop.invariant (search rules) ∙ sym (list_written _)

@@ -4,9 +4,9 @@ use mathlib.Core.Path.{◌≡◌}
 use native.Mathlib.Omega.{arith}
 use lib.ListN.{length}
 use borrow.Author.Rules.{rules}
-use Rattle.base.proofs.Put.{renamed, then, put_length_lem}
+use Rattle.base.proofs.Put.{renamed, then, put_length}
 use Rattle.base.proofs.StoringLaws.{fitted}
-use Rattle.frame_build.proofs.JoinBodies.{request_parts_lem}
+use Rattle.frame_build.proofs.JoinBodies.{request_parts}
 use Rattle.frame_build.proofs.creator.join.fill_request.Statement.{statement}
 use Rattle.frame_build.proofs.creator.join.fill_request.Tie as tie
 
@@ -21,10 +21,10 @@ returns c =
     let at-put = at-put2.before.before.before.before.before in
     let start = at-put.before.before.before.before.before.before.before in
     let one = fitted at-put.put.ensures (omega (arith, start.requires)) in
-    let two = fitted at-put2.put2.ensures (omega (arith, sizes start, start.requires, one.next, put_length_lem one)) in
-    let three = fitted at-put3.put3.ensures (omega (arith, sizes start, start.requires, one.next, put_length_lem one, two.next, put_length_lem two)) in
-    let four = fitted c.before.before.put4.ensures (omega (arith, sizes start, start.requires, one.next, put_length_lem one, two.next, put_length_lem two, three.next, put_length_lem three)) in
-    renamed (then (then (then one two) three) four) (request_parts_lem start.args.j)
+    let two = fitted at-put2.put2.ensures (omega (arith, sizes start, start.requires, one.next, put_length one)) in
+    let three = fitted at-put3.put3.ensures (omega (arith, sizes start, start.requires, one.next, put_length one, two.next, put_length two)) in
+    let four = fitted c.before.before.put4.ensures (omega (arith, sizes start, start.requires, one.next, put_length one, two.next, put_length two, three.next, put_length three)) in
+    renamed (then (then (then one two) three) four) (request_parts start.args.j)
 
 pub fill-request-spec : {M : Type 1} → statement M
 fill-request-spec =

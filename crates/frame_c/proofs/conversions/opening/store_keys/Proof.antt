@@ -5,7 +5,7 @@ use mathlib.Core.List.{◌++◌}
 use native.Mathlib.Omega.{arith}
 use lib.ListN.{length, length-append}
 use borrow.Author.Rules.{rules}
-use Rattle.base.proofs.Put.{then, put_length_lem}
+use Rattle.base.proofs.Put.{then, put_length}
 use Rattle.base.proofs.StoringLaws.{fitted}
 use Rattle.frame_c.proofs.StoredLaws.{room_left, refused, stored}
 use Rattle.frame_c.proofs.conversions.opening.store_keys.Statement.{statement}
@@ -29,7 +29,7 @@ returns-2 c =
     let short = tested.before.or_short.ensures in
     let room = room_left _ _ _ short tested.if1.false in
     let one = fitted first.put.ensures (omega (arith, room, sizes start)) in
-    let two = fitted second.put2.ensures (omega (arith, room, sizes start, one.next, put_length_lem one)) in
+    let two = fitted second.put2.ensures (omega (arith, room, sizes start, one.next, put_length one)) in
     stored _ _ short tested.if1.false (long start) c.numbered-bits2.ensures (then one two)
 
 pub store-keys-spec : {M : Type 1} → statement M

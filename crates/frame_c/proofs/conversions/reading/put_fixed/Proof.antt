@@ -6,7 +6,7 @@ use Prim.Native.Nat.{ℕ}
 use native.Mathlib.Omega.{arith}
 use lib.ListN.{length}
 use borrow.Author.Rules.{rules}
-use Rattle.base.proofs.Put.{then, renamed, put_length_lem}
+use Rattle.base.proofs.Put.{then, renamed, put_length}
 use Rattle.base.proofs.StoringLaws.{fitted}
 use Rattle.frame_c.specs.CStored.{accept_fixed}
 use Rattle.frame_c.proofs.conversions.reading.put_fixed.Statement.{statement}
@@ -37,10 +37,10 @@ returns c =
     let size = sizes start in
     let room = start.requires in
     let one = fitted at-put.put.ensures (omega (arith, size, room)) in
-    let two = fitted at-put2.put2.ensures (omega (arith, size, room, one.next, put_length_lem one)) in
-    let three = fitted at-put3.put3.ensures (omega (arith, size, room, one.next, put_length_lem one, two.next, put_length_lem two)) in
-    let four = fitted at-put4.put4.ensures (omega (arith, size, room, one.next, put_length_lem one, two.next, put_length_lem two, three.next, put_length_lem three)) in
-    let five = fitted c.before.before.put5.ensures (omega (arith, size, room, one.next, put_length_lem one, two.next, put_length_lem two, three.next, put_length_lem three, four.next, put_length_lem four)) in
+    let two = fitted at-put2.put2.ensures (omega (arith, size, room, one.next, put_length one)) in
+    let three = fitted at-put3.put3.ensures (omega (arith, size, room, one.next, put_length one, two.next, put_length two)) in
+    let four = fitted at-put4.put4.ensures (omega (arith, size, room, one.next, put_length one, two.next, put_length two, three.next, put_length three)) in
+    let five = fitted c.before.before.put5.ensures (omega (arith, size, room, one.next, put_length one, two.next, put_length two, three.next, put_length three, four.next, put_length four)) in
     renamed (then (then (then (then one two) three) four) five)
     (ap (λ (k : ℕ). j.app_nonce ++ j.net_id ++ j.dev_addr ++ (j.dl_settings ∷ j.rx_delay ∷ k ∷ []) ++ j.masks)
     listed.list-number.ensures)

@@ -4,7 +4,7 @@ use Prim.Native.Nat.{◌-◌, ◌≤◌}
 use native.Mathlib.Omega.{arith}
 use borrow.Author.Rules.{rules}
 use Rattle.base.specs.Storing.{Put}
-use Rattle.base.proofs.Put.{none, put_length_lem}
+use Rattle.base.proofs.Put.{none, put_length}
 use Rattle.frame_c.specs.CStored.{four_each}
 use Rattle.frame_c.proofs.FieldBytes.{four_more, four_all}
 use Rattle.frame_c.proofs.conversions.reading.put_frequencies.Statement.{statement}
@@ -45,5 +45,5 @@ put-frequencies-spec =
     (λ c. search rules)
     (λ c. search rules)
     loop-again
-    (λ c. put_length_lem c.before.loop.invariant.1)
+    (λ c. put_length c.before.loop.invariant.1)
     returns)

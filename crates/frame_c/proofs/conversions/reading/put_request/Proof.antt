@@ -4,7 +4,7 @@ use mathlib.Core.Path.{◌≡◌}
 use native.Mathlib.Omega.{arith}
 use lib.ListN.{length}
 use borrow.Author.Rules.{rules}
-use Rattle.base.proofs.Put.{then, put_length_lem}
+use Rattle.base.proofs.Put.{then, put_length}
 use Rattle.base.proofs.StoringLaws.{fitted}
 use Rattle.frame_c.specs.CStored.{request_bytes}
 use Rattle.frame_c.proofs.conversions.reading.put_request.Statement.{statement}
@@ -25,9 +25,9 @@ returns c =
     let size = sizes start in
     let room = start.requires in
     let one = fitted at-put.put.ensures (omega (arith, size, room)) in
-    let two = fitted at-put2.put2.ensures (omega (arith, size, room, one.next, put_length_lem one)) in
-    let three = fitted at-put3.put3.ensures (omega (arith, size, room, one.next, put_length_lem one, two.next, put_length_lem two)) in
-    let four = fitted c.before.before.put4.ensures (omega (arith, size, room, one.next, put_length_lem one, two.next, put_length_lem two, three.next, put_length_lem three)) in
+    let two = fitted at-put2.put2.ensures (omega (arith, size, room, one.next, put_length one)) in
+    let three = fitted at-put3.put3.ensures (omega (arith, size, room, one.next, put_length one, two.next, put_length two)) in
+    let four = fitted c.before.before.put4.ensures (omega (arith, size, room, one.next, put_length one, two.next, put_length two, three.next, put_length three)) in
     then (then (then one two) three) four
 
 pub put-request-spec : {M : Type 1} → statement M

@@ -5,7 +5,7 @@ use mathlib.Core.List.{◌++◌}
 use native.Mathlib.Omega.{arith}
 use lib.ListN.{length, length-append}
 use borrow.Author.Rules.{rules}
-use Rattle.base.proofs.Put.{then, put_length_lem}
+use Rattle.base.proofs.Put.{then, put_length}
 use Rattle.frame_c.specs.CStored.{accept_fixed, four_each}
 use Rattle.frame_c.proofs.FieldBytes.{fixed_long, four_each_long}
 use Rattle.frame_c.proofs.StoredLaws.{room_left, refused, stored}
@@ -34,7 +34,7 @@ put-frequencies-requires c κs =
     let tested = first.before.before.before in
     let start = tested.before.before.before.before in
     let room = room_left _ _ _ tested.before.or_short.ensures tested.if1.false in
-    omega (arith, room, first.put-fixed.ensures.next, put_length_lem first.put-fixed.ensures, fixed start)
+    omega (arith, room, first.put-fixed.ensures.next, put_length first.put-fixed.ensures, fixed start)
 
 returns-2 : tie.Need-returns-2
 returns-2 c =
