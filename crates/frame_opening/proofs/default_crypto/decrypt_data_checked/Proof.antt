@@ -1,7 +1,7 @@
 -- `decrypt_data_checked` answers by the test where it is not passed, and opens the frame where it is.
 -- Assumes nothing.
 use mathlib.Core.Path.{sym, ap, ◌∙◌}
-use Rattle.frame_opening.specs.FrameOpening.{result}
+use Rattle.frame_opening.specs.FrameOpening.{outcome}
 use Rattle.frame_opening.specs.declared.payload.Opening.{Opening}
 use Rattle.frame_opening.proofs.CheckedLaws.{checked_refuses, checked_opens}
 use borrow.Author.Rules.{rules}
@@ -12,7 +12,7 @@ returns : tie.Need-returns
 returns c =
     let m = c.before.before in
     let a = m.before.before.before.args in
-    ap (λ (o : Opening). result o a.frame.now) c.opening-after.ensures
+    ap (λ (o : Opening). outcome o a.frame.now) c.opening-after.ensures
     ∙ checked_refuses a.nwk-skey a.app-skey a.counter a.frame.now m.data_mic.result m.data_mic.ensures
     c.before.match.keys2
 

@@ -2,7 +2,7 @@
 -- it is not.
 -- Assumes nothing.
 use mathlib.Core.Path.{sym, ap, ◌∙◌}
-use Rattle.frame_opening.specs.FrameOpening.{unopened, result}
+use Rattle.frame_opening.specs.FrameOpening.{unopened, outcome}
 use Rattle.frame_opening.proofs.OpeningLaws.{no_accept, a_accept}
 use Rattle.frame_opening.specs.CheckedOpening.{accept_tested, accept_opened_checked}
 use Rattle.frame_opening.proofs.CheckedLaws.{accept_read_long}
@@ -17,7 +17,7 @@ returns c =
     let r = c.before.before in
     let a = r.before.before.before.args in
     let f = a.frame.now in
-    ap (λ (o : Opening). result o f) c.no-opening.ensures
+    ap (λ (o : Opening). outcome o f) c.no-opening.ensures
     ∙ no_accept (unopened f) f r.read.result r.read.ensures (λ n. accept_tested a.app-key f)
     c.before.match.keys2
 

@@ -6,7 +6,7 @@ use mathlib.Core.List.{List}
 use Prim.Native.Nat.{ℕ}
 use native.Mathlib.Omega.{arith}
 use Rattle.frame_security.specs.JoinAcceptCipher.{accept_decrypted}
-use Rattle.frame_opening.specs.FrameOpening.{join_passes, test_passes, result}
+use Rattle.frame_opening.specs.FrameOpening.{join_passes, test_passes, outcome}
 use Rattle.frame_opening.specs.declared.payload.Opening.{Opening}
 use Rattle.frame_opening.specs.CheckedOpening.{opening_after_of, accept_tested}
 use Rattle.frame_opening.proofs.CheckedLaws.{accept_long, copy_test, stored, not_stored, stored_back}
@@ -44,7 +44,7 @@ returns c =
     let f = s.args.frame.now in
     let g = accept_decrypted s.args.app-key f in
     let t = m.join-accept-mic.ensures ∙ copy_test s.args.app-key f s.requires y.clear-copy.result y.clear-copy.ensures in
-    ap₂ (λ (o : Opening) (l : List ℕ). result o l) (p.before.opening-after.ensures ∙ ap opening_after_of t)
+    ap₂ (λ (o : Opening) (l : List ℕ). outcome o l) (p.before.opening-after.ensures ∙ ap opening_after_of t)
     (stored_back f _ c.before.before.put.ensures (ap length y.clear-copy.ensures ∙ clear_long s.args.app-key f)
     ∙ y.clear-copy.ensures)
     ∙ stored (join_passes s.args.app-key g) f g
@@ -60,7 +60,7 @@ returns-2 c =
     let f = s.args.frame.now in
     let g = accept_decrypted s.args.app-key f in
     let t = m.join-accept-mic.ensures ∙ copy_test s.args.app-key f s.requires y.clear-copy.result y.clear-copy.ensures in
-    ap (λ (o : Opening). result o f) (p.before.opening-after.ensures ∙ ap opening_after_of t)
+    ap (λ (o : Opening). outcome o f) (p.before.opening-after.ensures ∙ ap opening_after_of t)
     ∙ not_stored (join_passes s.args.app-key g) f g (sym (p.passes.ensures ∙ ap test_passes t) ∙ c.if1.false)
 
 pub open-accept-tested-spec : {M : Type 1} → statement M

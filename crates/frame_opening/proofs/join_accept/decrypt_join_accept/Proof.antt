@@ -4,7 +4,7 @@ use mathlib.Core.Path.{sym, ap, ◌∙◌}
 use native.Mathlib.Omega.{arith}
 use Rattle.frame_security.specs.JoinAcceptCipher.{accept_decrypted}
 use Rattle.frame_opening.specs.JoinAcceptOpening.{accept_opened}
-use Rattle.frame_opening.specs.FrameOpening.{result, unopened}
+use Rattle.frame_opening.specs.FrameOpening.{outcome, unopened}
 use Rattle.frame_opening.specs.declared.payload.Opening.TheVariants.{Opened}
 use Rattle.frame_opening.proofs.OpeningLaws.{no_accept, a_accept, accept_length}
 use Rattle.frame_opening.specs.declared.payload.Opening.{Opening}
@@ -18,8 +18,8 @@ returns c =
     let r = c.before.before in
     let a = r.before.before.before.args in
     let f = a.frame.now in
-    ap (λ (o : Opening). result o f) c.no-opening.ensures
-    ∙ no_accept (unopened f) f r.read.result r.read.ensures (λ n. result Opened (accept_decrypted a.app-key f))
+    ap (λ (o : Opening). outcome o f) c.no-opening.ensures
+    ∙ no_accept (unopened f) f r.read.result r.read.ensures (λ n. outcome Opened (accept_decrypted a.app-key f))
     c.before.match.keys2
 
 decrypt-accept-requires : tie.Need-decrypt-accept-requires
@@ -37,8 +37,8 @@ returns-2 c =
     let r = t.before.before in
     let a = r.before.before.before.args in
     let f = a.frame.now in
-    ap (result Opened) c.before.before.decrypt_accept.ensures
-    ∙ a_accept (unopened f) f r.read.result r.read.ensures (λ n. result Opened (accept_decrypted a.app-key f))
+    ap (outcome Opened) c.before.before.decrypt_accept.ensures
+    ∙ a_accept (unopened f) f r.read.result r.read.ensures (λ n. outcome Opened (accept_decrypted a.app-key f))
     t.enum_told.given.1
 
 pub decrypt-join-accept-spec : {M : Type 1} → statement M

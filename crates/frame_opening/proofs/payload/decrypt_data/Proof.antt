@@ -3,7 +3,7 @@
 use mathlib.Core.Path.{sym, ap, ◌∙◌}
 use Rattle.frame.specs.declared.keys.MaybeKey.{MaybeKey}
 use Rattle.frame.proofs.ReadingLaws.{data_read, data_fields}
-use Rattle.frame_opening.specs.FrameOpening.{unopened, opened_under, data_opened, result}
+use Rattle.frame_opening.specs.FrameOpening.{unopened, opened_under, data_opened, outcome}
 use Rattle.frame_opening.specs.declared.payload.Opening.{Opening}
 use Rattle.frame_opening.proofs.OpeningLaws.{no_data, a_data}
 use Rattle.frame_security.specs.Security.{frame_key}
@@ -17,7 +17,7 @@ returns c =
     let r = c.before.before in
     let a = r.before.before.before.args in
     let f = a.frame.now in
-    ap (λ (o : Opening). result o f) c.no-opening.ensures
+    ap (λ (o : Opening). outcome o f) c.no-opening.ensures
     ∙ no_data (unopened f) f r.read.result r.read.ensures
     (λ d. opened_under (frame_key f a.nwk-skey a.app-skey) a.counter f) c.before.match.keys2
 

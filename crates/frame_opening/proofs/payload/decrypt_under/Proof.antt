@@ -1,7 +1,7 @@
 -- `decrypt_under` decrypts where the key was given, and writes nothing where it was not.
 -- Assumes nothing.
 use mathlib.Core.Path.{sym, ap, ◌∙◌}
-use Rattle.frame_opening.specs.FrameOpening.{result, opened_under}
+use Rattle.frame_opening.specs.FrameOpening.{outcome, opened_under}
 use Rattle.frame_opening.specs.declared.payload.Opening.TheVariants.{Opened}
 use Rattle.frame_opening.proofs.OpeningLaws.{pick_true, pick_false}
 use borrow.Author.Rules.{rules}
@@ -11,7 +11,7 @@ use Rattle.frame_opening.proofs.payload.decrypt_under.Tie as tie
 returns : tie.Need-returns
 unfolding opened_under
 returns c =
-    ap (result Opened) c.before.before.decrypt-payload.ensures
+    ap (outcome Opened) c.before.before.decrypt-payload.ensures
     ∙ sym (pick_true _ _ _ c.before.before.before.before.before.if1.true)
 
 returns-2 : tie.Need-returns-2
