@@ -3,14 +3,12 @@
 -- Assumes nothing.
 use mathlib.Core.Path.{◌≡◌, refl, ap, ◌∙◌}
 use mathlib.Core.Bool.{Bool, true, false}
-use mathlib.Core.List.{List, [], ◌∷◌, ◌++◌, append-nil}
+use mathlib.Core.List.{List, ◌++◌, append-nil}
 use mathlib.Core.Logic.{⊎_elim}
 use Prim.Native.Nat.{ℕ, ◌-◌, ◌/◌, ◌%◌, ◌≤◌}
 use native.Mathlib.Omega.{arith}
 use lib.ListN.{length, take, drop, drop_of_length-le}
 use lib.Seq.{take_at}
-use types.Run.{OneOf}
-use denote.Enum.Declared.{tag_of}
 use Rattle.base.specs.Bytes.{pick, at, part}
 use Rattle.base.specs.Storing.{Stored}
 use Rattle.base.proofs.Put.{put_front}
@@ -32,7 +30,6 @@ use Rattle.frame_opening.specs.declared.mic_tests.MicTest.{MicTest}
 use Rattle.frame_opening.specs.declared.mic_tests.MicTest.TheVariants.{Passes, Fails, Refused as RefusedTest}
 use Rattle.frame_opening.specs.declared.payload.Opening.{Opening}
 use Rattle.frame_opening.specs.declared.payload.Opening.TheVariants.{Opened}
-use Rattle.frame_opening.specs.contracts.mic_tests.MicTest as T
 use Rattle.frame_security.proofs.AcceptBlocks.{clear_first, clear_long}
 use Rattle.frame_opening.specs.CheckedOpening.{opening_after_of, opened_tested, data_opened_checked}
 
@@ -61,9 +58,9 @@ module _ (nwk : List ℕ) (app : MaybeKey) (counter : ℕ) (f : List ℕ) where
       ∙ tested_reading f (data_passes nwk counter f) (λ d. opened_under (frame_key f (given_key nwk) app) counter f) (read_of f)
 
   -- a test that is not passed is the answer
-  pub checked_refuses : (t : MicTest) → t ≡ data_test_of nwk counter f → OneOf (1 ∷ 2 ∷ []) (tag_of T.the_type t)
+  pub checked_refuses : (t : MicTest) → t ≡ data_test_of nwk counter f → (t ≡ Passes → ⊥)
       → outcome (opening_after_of t) f ≡ data_opened_checked nwk app counter f
-  checked_refuses Passes q h = absurd (⊎_elim (λ k. omega arith) (λ k. omega arith) h)
+  checked_refuses Passes q h = absurd (h refl)
   checked_refuses Fails q h = after_test_lem Fails q
   checked_refuses (RefusedTest r) q h = after_test_lem (RefusedTest r) q
 
