@@ -2,11 +2,7 @@
 -- Assumes nothing.
 use borrow.Author.Rules.{rules}
 use Rattle.show_text.proofs.Digits.{digits_right}
-use Rattle.show_text.proofs.digit.Statement.{statement}
-use Rattle.show_text.proofs.digit.Tie as tie
+use Rattle.show_text.proofs.digit.Goals as goal
 
-returns : tie.Need-returns
+pub returns : goal.returns
 returns c = digits_right c.args.n (search rules)
-
-pub digit-spec : {M : Type 1} → statement M
-digit-spec = tie.close (tie.spec (λ c. search rules) returns)
