@@ -12,11 +12,7 @@ use crate::conversions::answers::{opening_answer, test_answer};
 use crate::conversions::opening::store_keys;
 use frame::keys::MaybeKey;
 
-pub fn zinovoky_join_request_mic(
-    frame: &[u8],
-    app_key: &[u8; 16],
-    passes: &mut u8,
-) -> u64
+pub fn zinovoky_join_request_mic(frame: &[u8], app_key: &[u8; 16], passes: &mut u8) -> u64
     ensures value { result ≡ test_answer_of (join_request_test app_key.now frame.now) }
     ensures passes_after { passes.new
         ≡ passes_of (join_request_test app_key.now frame.now) passes.old }
@@ -36,12 +32,7 @@ pub fn zinovoky_join_accept_mic(frame: &[u8], app_key: &[u8; 16], passes: &mut u
     test_answer(test, passes)
 }
 
-pub fn zinovoky_data_mic(
-    frame: &[u8],
-    nwk_skey: &[u8; 16],
-    counter: u32,
-    passes: &mut u8,
-) -> u64
+pub fn zinovoky_data_mic(frame: &[u8], nwk_skey: &[u8; 16], counter: u32, passes: &mut u8) -> u64
     ensures value { result ≡ test_answer_of (data_test_of nwk_skey.now counter frame.now) }
     ensures passes_after { passes.new
         ≡ passes_of (data_test_of nwk_skey.now counter frame.now) passes.old }
