@@ -1,6 +1,7 @@
 // MAC commands as six numbers, for callers that know no enum: the identifier, then the values in the order of the fields, 0 past
 // the last one. The margin of DevStatusAns is signed.
 #![tactic(auto)]
+
 ghost use Rattle.std.specs.Prelude.{◌≡◌, [], ◌∷◌, length};
 ghost use Rattle.mac_commands.specs.Layout.{row, fields_of};
 ghost use Rattle.mac_commands.specs.Commands.{fields_written, fields_in};

@@ -11,13 +11,7 @@ use frame::packed::numbered_bits;
 use mac_commands::maccommands::{RawStep, read_raw};
 
 // The six numbers of a command that was found are stored; at the end of the list and by a refusal nothing is.
-#[unsafe(no_mangle)]
-pub extern "C" fn zinovoky_read_command(
-    uplink: u8,
-    bytes: &[u8],
-    offset: usize,
-    command: &mut [i64; 6],
-) -> u64
+pub fn zinovoky_read_command(uplink: u8, bytes: &[u8], offset: usize, command: &mut [i64; 6]) -> u64
     ensures value { result ≡ step_answer (step_at (eqb uplink 1) bytes.now offset) }
     ensures command_after { command.new ≡ step_into (step_at (eqb uplink 1) bytes.now offset) command.old }
 {
@@ -33,13 +27,7 @@ pub extern "C" fn zinovoky_read_command(
     }
 }
 
-#[unsafe(no_mangle)]
-pub extern "C" fn zinovoky_write_command(
-    uplink: u8,
-    command: &[i64; 6],
-    out: &mut [u8],
-    offset: usize,
-) -> u64
+pub fn zinovoky_write_command(uplink: u8, command: &[i64; 6], out: &mut [u8], offset: usize) -> u64
     ensures value { result
         ≡ written_answer_of
         (fields_written (eqb uplink 1) (id_given command.now) (values_given (eqb uplink 1) command.now)

@@ -1,0 +1,12 @@
+-- `zinovoky_decrypt_data_checked` answers what `decrypt_data_checked` does, of the keys as they are given.
+-- Assumes nothing.
+use mathlib.Core.Path.{refl}
+use Rattle.frame_c.specs.CGiven.{app_given}
+use Rattle.frame_c.proofs.Opened.{opened}
+use Rattle.frame_c.proofs.opening.zinovoky_decrypt_data_checked.Goals as goal
+
+pub returns : goal.returns
+unfolding app_given
+returns c =
+    let both = opened c.decrypt_data_checked-opening.ensures refl c.opening_answer.ensures in
+    record { value = both.0; frame_after = both.1 }
