@@ -3,7 +3,6 @@ ghost use Rattle.std.specs.Prelude.{◌≤◌};
 
 use base::storing::{block_at, byte_at, four_at};
 use frame::keys::MaybeKey;
-use std::num::wrapping_add_usize;
 
 // No record, frame or output of a case is longer.
 pub const ROOM: usize = 1000;
@@ -18,7 +17,7 @@ pub fn length_of(low: u8, high: u8) -> usize
 
 // The place n bytes after another.
 pub fn after(place: usize, n: usize) -> usize {
-    wrapping_add_usize(place, n)
+    place.wrapping_add(n)
 }
 
 pub fn length_at(record: &[u8], place: usize) -> usize
@@ -31,10 +30,8 @@ pub fn length_at(record: &[u8], place: usize) -> usize
 
 // Fills `to` with the bytes from a place on.
 pub fn copy(to: &mut [u8], record: &[u8], place: usize) {
-    let mut i: usize = 0;
-    while i < to.len() {
+    for i in 0..to.len() {
         to[i] = byte_at(record, after(place, i));
-        i += 1;
     }
 }
 
@@ -73,10 +70,8 @@ pub fn number_at(record: &[u8], place: usize) -> u32 {
 // Fills `to` with the numbers from a place on.
 pub fn copy_numbers(to: &mut [u32], record: &[u8], from: usize) {
     let mut place = from;
-    let mut i: usize = 0;
-    while i < to.len() {
+    for i in 0..to.len() {
         to[i] = number_at(record, place);
         place = after(place, 4);
-        i += 1;
     }
 }
