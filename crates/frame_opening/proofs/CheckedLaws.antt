@@ -3,14 +3,12 @@
 -- Assumes nothing.
 use mathlib.Core.Path.{◌≡◌, refl, ap, ◌∙◌}
 use mathlib.Core.Bool.{Bool, true, false}
-use mathlib.Core.List.{List, [], ◌∷◌, ◌++◌, append-nil}
+use mathlib.Core.List.{List, ◌++◌, append-nil}
 use mathlib.Core.Logic.{⊎_elim}
 use Prim.Native.Nat.{ℕ, ◌-◌, ◌/◌, ◌%◌, ◌≤◌}
 use native.Mathlib.Omega.{arith}
 use lib.ListN.{length, take, drop, drop_of_length-le}
 use lib.Seq.{take_at}
-use types.Run.{OneOf}
-use denote.Enum.Declared.{tag_of}
 use Rattle.base.specs.Bytes.{pick, at, part}
 use Rattle.base.specs.Storing.{Stored}
 use Rattle.base.proofs.Put.{put_front}
@@ -27,12 +25,11 @@ use Rattle.frame.specs.declared.parser.Reading.TheVariants.{JoinRequest, JoinAcc
 use Rattle.frame.proofs.ReadingLaws.{reads_accept, accept_read}
 use Rattle.frame_security.specs.JoinAcceptCipher.{accept_decrypted}
 use Rattle.frame_opening.specs.JoinAcceptOpening.{accept_opened}
-use Rattle.frame_opening.specs.FrameOpening.{join_passes, data_passes, answered, join_accept_test, data_test_of, test_passes, Result, result, unopened, opened_under, data_opened, given_key}
+use Rattle.frame_opening.specs.FrameOpening.{join_passes, data_passes, answered, join_accept_test, data_test_of, test_passes, Result, outcome, unopened, opened_under, data_opened, given_key}
 use Rattle.frame_opening.specs.declared.mic_tests.MicTest.{MicTest}
 use Rattle.frame_opening.specs.declared.mic_tests.MicTest.TheVariants.{Passes, Fails, Refused as RefusedTest}
 use Rattle.frame_opening.specs.declared.payload.Opening.{Opening}
 use Rattle.frame_opening.specs.declared.payload.Opening.TheVariants.{Opened}
-use Rattle.frame_opening.specs.contracts.mic_tests.MicTest as T
 use Rattle.frame_security.proofs.AcceptBlocks.{clear_first, clear_long}
 use Rattle.frame_opening.specs.CheckedOpening.{opening_after_of, opened_tested, data_opened_checked}
 
@@ -61,9 +58,9 @@ module _ (nwk : List ℕ) (app : MaybeKey) (counter : ℕ) (f : List ℕ) where
       ∙ tested_reading f (data_passes nwk counter f) (λ d. opened_under (frame_key f (given_key nwk) app) counter f) (read_of f)
 
   -- a test that is not passed is the answer
-  pub checked_refuses : (t : MicTest) → t ≡ data_test_of nwk counter f → OneOf (1 ∷ 2 ∷ []) (tag_of T.the_type t)
-      → result (opening_after_of t) f ≡ data_opened_checked nwk app counter f
-  checked_refuses Passes q h = absurd (⊎_elim (λ k. omega arith) (λ k. omega arith) h)
+  pub checked_refuses : (t : MicTest) → t ≡ data_test_of nwk counter f → (t ≡ Passes → ⊥)
+      → outcome (opening_after_of t) f ≡ data_opened_checked nwk app counter f
+  checked_refuses Passes q h = absurd (h refl)
   checked_refuses Fails q h = after_test_lem Fails q
   checked_refuses (RefusedTest r) q h = after_test_lem (RefusedTest r) q
 
@@ -98,7 +95,7 @@ module _ (key f : List ℕ) (h : IsJoinAccept f (length f)) where
       )
 
   -- a copy of it whose first bytes, those of f, were lent, decrypted and put back
-  pub copy_clear : (copy t : List ℕ) (a : Opening) → take (length f) copy ≡ f → result a t ≡ accept_opened key (part 0 (length f - 0) copy)
+  pub copy_clear : (copy t : List ℕ) (a : Opening) → take (length f) copy ≡ f → outcome a t ≡ accept_opened key (part 0 (length f - 0) copy)
       → take (length f) (take 0 copy ++ (t ++ drop (length f - 0) (drop 0 copy))) ≡ accept_decrypted key f
   unfolding accept_opened
   copy_clear copy t a c e =
@@ -107,7 +104,7 @@ module _ (key f : List ℕ) (h : IsJoinAccept f (length f)) where
       ap (λ (r : Result). r.bytes)
       (e
       ∙ ap (accept_opened key) (ap (λ (n : ℕ). take n copy) z ∙ c)
-      ∙ ap (on_accept (λ n. result Opened (accept_decrypted key f)) (unopened f)) (reads_accept f (length f) h)) in
+      ∙ ap (on_accept (λ n. outcome Opened (accept_decrypted key f)) (unopened f)) (reads_accept f (length f) h)) in
       let l : length t ≡ length f = ap length clear ∙ clear_long key f in
       take_at t (drop (length f - 0) copy) (length f) l ∙ clear
 
@@ -122,12 +119,12 @@ module _ (key f : List ℕ) (h : IsJoinAccept f (length f)) where
 
 -- the copy is stored where the test is passed, and nothing is written where it is not
 pub stored : (b : Bool) (f g : List ℕ) → test_passes (answered b) ≡ true
-    → result (opening_after_of (answered b)) g ≡ pick b (result Opened g) (unopened f (refused 5))
+    → outcome (opening_after_of (answered b)) g ≡ pick b (outcome Opened g) (unopened f (refused 5))
 stored true f g h = refl
 stored false f g h = cc
 
 pub not_stored : (b : Bool) (f g : List ℕ) → test_passes (answered b) ≡ false
-    → result (opening_after_of (answered b)) f ≡ pick b (result Opened g) (unopened f (refused 5))
+    → outcome (opening_after_of (answered b)) f ≡ pick b (outcome Opened g) (unopened f (refused 5))
 not_stored true f g h = cc
 not_stored false f g h = refl
 

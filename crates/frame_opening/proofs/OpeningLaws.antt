@@ -3,13 +3,11 @@
 -- Assumes nothing.
 use mathlib.Core.Path.{◌≡◌, sym, ap, ap₂, ◌∙◌}
 use mathlib.Core.Bool.{Bool, true, false}
-use mathlib.Core.List.{List, [], ◌∷◌}
+use mathlib.Core.List.{List}
 use mathlib.Core.Logic.{⊎_elim}
 use Prim.Native.Nat.{ℕ, ◌+◌, ◌-◌, ◌≤◌, min}
 use native.Mathlib.Omega.{arith}
 use lib.ListN.{length, take}
-use types.Run.{OneOf}
-use denote.Enum.Declared.{tag_of}
 use Rattle.base.specs.Bytes.{pick, part}
 use Rattle.base.specs.Storing.{run_at}
 use Rattle.frame_security.specs.Mic.{same_bytes}
@@ -27,7 +25,6 @@ use Rattle.frame_security.specs.Security.{crypted_part, crypted_in, by_network_k
 use Rattle.frame_security.proofs.SecurityLaws.{crypted_inside}
 use Rattle.frame.proofs.Others.{not_request, not_accept, not_data}
 use Rattle.frame.proofs.ReadingLaws.{request_read, accept_read, data_read}
-use Rattle.frame.specs.contracts.parser.Reading as R
 
 -- ---- a choice whose test is known
 
@@ -41,21 +38,21 @@ module _ {A : Type 0} (b : Bool) (x y : A) where
 -- ---- the reading that a call needs: what it answers at another, what at this, and what this says of the frame
 
 module _ {A : Type 0} (e : Refusal → A) (f : List ℕ) (r : Reading) (q : r ≡ read_of f) where
-  pub no_request : (x : A) → OneOf (1 ∷ 2 ∷ 3 ∷ []) (tag_of R.the_type r)
+  pub no_request : (x : A) → (r ≡ JoinRequest → ⊥)
       → e (other_refusal_of r) ≡ on_request x e (read_of f)
   no_request x h = sym (not_request e x r h) ∙ ap (on_request x e) q
 
   pub a_request : (x : A) → r ≡ JoinRequest → x ≡ on_request x e (read_of f)
   a_request x p = ap (on_request x e) (sym p ∙ q)
 
-  pub no_accept : (x : ℕ → A) → OneOf (0 ∷ 2 ∷ 3 ∷ []) (tag_of R.the_type r)
+  pub no_accept : (x : ℕ → A) → ((n : ℕ) → r ≡ JoinAccept n → ⊥)
       → e (other_refusal_of r) ≡ on_accept x e (read_of f)
   no_accept x h = sym (not_accept e x r h) ∙ ap (on_accept x e) q
 
   pub a_accept : (x : ℕ → A) {n : ℕ} → r ≡ JoinAccept n → x n ≡ on_accept x e (read_of f)
   a_accept x p = ap (on_accept x e) (sym p ∙ q)
 
-  pub no_data : (x : DataFrame → A) → OneOf (0 ∷ 1 ∷ 3 ∷ []) (tag_of R.the_type r)
+  pub no_data : (x : DataFrame → A) → ((d : DataFrame) → r ≡ Data d → ⊥)
       → e (other_refusal_of r) ≡ on_data x e (read_of f)
   no_data x h = sym (not_data e x r h) ∙ ap (on_data x e) q
 

@@ -9,7 +9,7 @@ use Rattle.frame.specs.Refusals.{refused}
 use Rattle.frame_security.specs.Security.{frame_key}
 use Rattle.frame.specs.declared.keys.MaybeKey.{MaybeKey}
 use Rattle.frame_security.specs.JoinAcceptCipher.{accept_decrypted}
-use Rattle.frame_opening.specs.FrameOpening.{join_passes, data_passes, Result, result, unopened, opened_under, given_key}
+use Rattle.frame_opening.specs.FrameOpening.{join_passes, data_passes, Result, outcome, unopened, opened_under, given_key}
 use Rattle.frame_opening.specs.declared.mic_tests.MicTest.{MicTest}
 use Rattle.frame_opening.specs.declared.mic_tests.MicTest.TheVariants.{Passes, Fails, Refused as RefusedTest}
 use Rattle.frame_opening.specs.declared.payload.Opening.{Opening}
@@ -37,7 +37,7 @@ data_opened_checked nwk app counter f =
 -- 5 where the MIC of the clear text differs
 unfoldable pub accept_tested : List ℕ → List ℕ → Result
 accept_tested key f =
-    pick (join_passes key (accept_decrypted key f)) (result Opened (accept_decrypted key f)) (unopened f (refused 5))
+    pick (join_passes key (accept_decrypted key f)) (outcome Opened (accept_decrypted key f)) (unopened f (refused 5))
 
 unfoldable pub accept_opened_checked : List ℕ → List ℕ → Result
 accept_opened_checked key f = on_accept (λ n. accept_tested key f) (unopened f) (read_of f)

@@ -60,12 +60,12 @@ pub record Result : Type 0 where
   pub answer : Opening
   pub bytes : List ℕ
 
-abbrev pub result : Opening → List ℕ → Result
-result a f = record { answer = a; bytes = f }
+abbrev pub outcome : Opening → List ℕ → Result
+outcome a f = record { answer = a; bytes = f }
 
 -- a refusal leaves the frame as it was
 abbrev pub unopened : List ℕ → Refusal → Result
-unopened f r = result (Refused r) f
+unopened f r = outcome (Refused r) f
 
 -- ---- 4.3.3 the payload of a data frame
 
@@ -75,7 +75,7 @@ decrypted key counter f = crypted_part key f (full_counter_of counter (fcnt f)) 
 
 -- 6 where the key was not given
 unfoldable pub opened_under : MaybeKey → ℕ → List ℕ → Result
-opened_under key counter f = pick key.given (result Opened (decrypted key.key counter f)) (unopened f (refused 6))
+opened_under key counter f = pick key.given (outcome Opened (decrypted key.key counter f)) (unopened f (refused 6))
 
 unfoldable pub data_opened : MaybeKey → MaybeKey → ℕ → List ℕ → Result
 data_opened nwk app counter f =

@@ -3,7 +3,7 @@
 ghost use Rattle.std.specs.Prelude.{◌≡◌, ◌≤◌, length, take};
 ghost use Rattle.frame.specs.Conditions.{IsJoinAccept};
 ghost use Rattle.frame_security.specs.JoinAcceptCipher.{accept_decrypted};
-ghost use Rattle.frame_opening.specs.FrameOpening.{result, test_passes};
+ghost use Rattle.frame_opening.specs.FrameOpening.{outcome, test_passes};
 ghost use Rattle.frame_opening.specs.CheckedOpening.{opening_after_of, data_opened_checked, accept_tested, accept_opened_checked};
 
 use crate::join_accept::decrypt_join_accept;
@@ -15,7 +15,7 @@ use frame::refusals::{INVALID_MIC, Refusal};
 
 // What an opening answers where it goes by a test of the MIC.
 fn opening_after(test: MicTest) -> Opening
-    ensures* { λ r. ⌜ r ≡ opening_after_of test ⌝ }
+    ensures { result ≡ opening_after_of test }
 {
     match test {
         MicTest::Passes => Opening::Opened,
@@ -28,7 +28,7 @@ fn opening_after(test: MicTest) -> Opening
 }
 
 fn passes(test: MicTest) -> bool
-    ensures* { λ r. ⌜ r ≡ test_passes test ⌝ }
+    ensures { result ≡ test_passes test }
 {
     match test {
         MicTest::Passes => true,
@@ -44,9 +44,8 @@ pub fn decrypt_data_checked(
     app_skey: MaybeKey,
     counter: u32,
 ) -> Opening
-    ensures* { λ r.
-        ⌜ result r frame.new
-        ≡ data_opened_checked nwk_skey app_skey counter frame.old ⌝ }
+    ensures { outcome result frame.new
+        ≡ data_opened_checked nwk_skey app_skey counter frame.old }
 {
     let test = data_mic(frame, nwk_skey, counter);
     let MicTest::Passes = test else {
@@ -62,7 +61,7 @@ pub fn decrypt_data_checked(
 // A copy of a join-accept, decrypted, zeros behind it.
 fn clear_copy(frame: &[u8], app_key: [u8; 16]) -> [u8; 33]
     requires { IsJoinAccept frame.now (length frame.now) }
-    ensures* { λ r. ⌜ take (length frame.now) r ≡ accept_decrypted app_key frame.now ⌝ }
+    ensures { take (length frame.now) result ≡ accept_decrypted app_key frame.now }
 {
     let n = frame.len();
     let mut copy = [0u8; 33];
@@ -74,7 +73,7 @@ fn clear_copy(frame: &[u8], app_key: [u8; 16]) -> [u8; 33]
 // The MIC is tested on a clear copy, which is stored if it is right.
 fn open_accept_tested(frame: &mut [u8], app_key: [u8; 16]) -> Opening
     requires { IsJoinAccept frame.old (length frame.old) }
-    ensures* { λ r. ⌜ result r frame.new ≡ accept_tested app_key frame.old ⌝ }
+    ensures { outcome result frame.new ≡ accept_tested app_key frame.old }
 {
     let n = frame.len();
     let copy = clear_copy(frame, app_key);
@@ -90,7 +89,7 @@ fn open_accept_tested(frame: &mut [u8], app_key: [u8; 16]) -> Opening
 
 // Decrypts a join-accept where it lies if the MIC of the clear text is right.
 pub fn decrypt_join_accept_checked(frame: &mut [u8], app_key: [u8; 16]) -> Opening
-    ensures* { λ r. ⌜ result r frame.new ≡ accept_opened_checked app_key frame.old ⌝ }
+    ensures { outcome result frame.new ≡ accept_opened_checked app_key frame.old }
 {
     let reading = read(frame);
     let Reading::JoinAccept(_) = reading else {

@@ -2,7 +2,7 @@
 ghost use Rattle.std.specs.Prelude.{◌≡◌, ◌≤◌, length};
 ghost use Rattle.frame.specs.ReadingNumbers.{other_refusal_of};
 ghost use Rattle.frame_security.specs.JoinAcceptCipher.{accept_decrypted};
-ghost use Rattle.frame_opening.specs.FrameOpening.{result};
+ghost use Rattle.frame_opening.specs.FrameOpening.{outcome};
 ghost use Rattle.frame_opening.specs.JoinAcceptOpening.{accept_opened};
 ghost use Rattle.frame_opening.specs.SessionKeys.{key_block_of, derived_keys, no_keys_of, session_keys_of};
 
@@ -25,14 +25,14 @@ pub struct SessionKeys {
 // 6.2.5: what a device does to a join-accept, from byte 1.
 fn decrypt_accept(frame: &mut [u8], app_key: [u8; 16])
     requires { 1 ≤ length frame.old }
-    ensures* { λ _. ⌜ frame.new ≡ accept_decrypted app_key frame.old ⌝ }
+    ensures { frame.new ≡ accept_decrypted app_key frame.old }
 {
     each_block(app_key, false, &mut frame[1..]);
 }
 
 // Decrypts a join-accept where it lies, with no test of its MIC.
 pub fn decrypt_join_accept(frame: &mut [u8], app_key: [u8; 16]) -> Opening
-    ensures* { λ r. ⌜ result r frame.new ≡ accept_opened app_key frame.old ⌝ }
+    ensures { outcome result frame.new ≡ accept_opened app_key frame.old }
 {
     let reading = read(frame);
     let Reading::JoinAccept(_) = reading else {
@@ -44,7 +44,7 @@ pub fn decrypt_join_accept(frame: &mut [u8], app_key: [u8; 16]) -> Opening
 
 // 6.2.5: the block whose cipher is a session key.
 fn key_block(first: u8, app_nonce: [u8; 3], net_id: [u8; 3], dev_nonce: [u8; 2]) -> [u8; 16]
-    ensures* { λ r. ⌜ r ≡ key_block_of first app_nonce net_id dev_nonce ⌝ }
+    ensures { result ≡ key_block_of first app_nonce net_id dev_nonce }
 {
     let mut block = [0u8; 16];
     block[0] = first;
@@ -56,7 +56,7 @@ fn key_block(first: u8, app_nonce: [u8; 3], net_id: [u8; 3], dev_nonce: [u8; 2])
 
 fn derive_keys(frame: &[u8], dev_nonce: [u8; 2], app_key: [u8; 16]) -> SessionKeys
     requires { 7 ≤ length frame.now }
-    ensures* { λ r. ⌜ r ≡ derived_keys app_key dev_nonce frame.now ⌝ }
+    ensures { result ≡ derived_keys app_key dev_nonce frame.now }
 {
     let app_nonce = three_at(frame, APP_NONCE_AT);
     let net_id = three_at(frame, NET_ID_AT);
@@ -76,7 +76,7 @@ fn derive_keys(frame: &[u8], dev_nonce: [u8; 2], app_key: [u8; 16]) -> SessionKe
 }
 
 fn no_keys(reading: Reading) -> SessionKeys
-    ensures* { λ r. ⌜ r ≡ no_keys_of (other_refusal_of reading) ⌝ }
+    ensures { result ≡ no_keys_of (other_refusal_of reading) }
 {
     SessionKeys {
         refusal: other_refusal(reading),
@@ -87,7 +87,7 @@ fn no_keys(reading: Reading) -> SessionKeys
 
 // The session keys that a clear join-accept gives a device with that DevNonce.
 pub fn session_keys(frame: &[u8], dev_nonce: [u8; 2], app_key: [u8; 16]) -> SessionKeys
-    ensures* { λ r. ⌜ r ≡ session_keys_of app_key dev_nonce frame.now ⌝ }
+    ensures { result ≡ session_keys_of app_key dev_nonce frame.now }
 {
     let reading = read(frame);
     let Reading::JoinAccept(_) = reading else {

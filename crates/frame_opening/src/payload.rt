@@ -4,7 +4,7 @@ ghost use Rattle.frame.specs.Conditions.{IsData};
 ghost use Rattle.frame.specs.Reading.{data_of};
 ghost use Rattle.frame.specs.ReadingNumbers.{other_refusal_of};
 ghost use Rattle.frame_security.specs.Security.{frame_key};
-ghost use Rattle.frame_opening.specs.FrameOpening.{result, decrypted, opened_under, data_opened};
+ghost use Rattle.frame_opening.specs.FrameOpening.{outcome, decrypted, opened_under, data_opened};
 
 use frame::keys::MaybeKey;
 use frame::numbers::other_refusal;
@@ -21,7 +21,7 @@ pub enum Opening {
 
 // What an opening answers at a reading of another type than it needs.
 pub(crate) fn no_opening(reading: Reading) -> Opening
-    ensures* { λ r. ⌜ r ≡ Opening.Refused (other_refusal_of reading) ⌝ }
+    ensures { result ≡ Opening.Refused (other_refusal_of reading) }
 {
     Opening::Refused(other_refusal(reading))
 }
@@ -29,7 +29,7 @@ pub(crate) fn no_opening(reading: Reading) -> Opening
 // Where the payload begins, or the MIC where there is none.
 fn header_end(fields: DataFrame) -> usize
     requires { fields.fopts_end ≤ 255 }
-    ensures* { λ r. ⌜ r ≡ min (fields.fopts_end + 1) fields.mic ⌝ }
+    ensures { result ≡ min (fields.fopts_end + 1) fields.mic }
 {
     let start = fields.fopts_end + 1;
     let mic = fields.mic;
@@ -42,7 +42,7 @@ fn header_end(fields: DataFrame) -> usize
 // 4.3.3: the key of a frame that was read as data.
 fn key_of(frame: &[u8], fields: DataFrame, nwk_skey: MaybeKey, app_skey: MaybeKey) -> MaybeKey
     requires { IsData frame.now × (fields ≡ data_of frame.now) }
-    ensures* { λ r. ⌜ r ≡ frame_key frame.now nwk_skey app_skey ⌝ }
+    ensures { result ≡ frame_key frame.now nwk_skey app_skey }
 {
     let start = header_end(fields);
     if by_network_key(&frame[..start], fields.mic - start) {
@@ -54,7 +54,7 @@ fn key_of(frame: &[u8], fields: DataFrame, nwk_skey: MaybeKey, app_skey: MaybeKe
 // 4.3.3: decrypts the payload of a frame that was read as data. Where there is no payload nothing is written.
 fn decrypt_payload(frame: &mut [u8], fields: DataFrame, key: [u8; 16], counter: u32)
     requires { IsData frame.old × (fields ≡ data_of frame.old) }
-    ensures* { λ _. ⌜ frame.new ≡ decrypted key counter frame.old ⌝ }
+    ensures { frame.new ≡ decrypted key counter frame.old }
 {
     let start = header_end(fields);
     let mic = fields.mic;
@@ -67,7 +67,7 @@ fn decrypt_payload(frame: &mut [u8], fields: DataFrame, key: [u8; 16], counter: 
 
 fn decrypt_under(frame: &mut [u8], fields: DataFrame, key: MaybeKey, counter: u32) -> Opening
     requires { IsData frame.old × (fields ≡ data_of frame.old) }
-    ensures* { λ r. ⌜ result r frame.new ≡ opened_under key counter frame.old ⌝ }
+    ensures { outcome result frame.new ≡ opened_under key counter frame.old }
 {
     let given = key.given;
     if given {
@@ -88,8 +88,7 @@ pub fn decrypt_data(
     app_skey: MaybeKey,
     counter: u32,
 ) -> Opening
-    ensures* { λ r.
-        ⌜ result r frame.new ≡ data_opened nwk_skey app_skey counter frame.old ⌝ }
+    ensures { outcome result frame.new ≡ data_opened nwk_skey app_skey counter frame.old }
 {
     let reading = read(frame);
     let Reading::Data(fields) = reading else {

@@ -9,7 +9,7 @@ use Rattle.frame.specs.Refusals.{refused}
 use Rattle.frame.specs.declared.keys.MaybeKey.{MaybeKey}
 use Rattle.frame.specs.declared.parser.FPort.{FPort}
 use Rattle.frame.specs.declared.parser.FPort.TheVariants.{Absent, Port}
-use Rattle.frame_opening.specs.FrameOpening.{Result, result, unopened, opened_under, data_opened}
+use Rattle.frame_opening.specs.FrameOpening.{Result, outcome, unopened, opened_under, data_opened}
 use Rattle.frame_opening.specs.declared.payload.Opening.TheVariants.{Opened}
 
 -- 4.3.2 the port that the crate reports, and this codec did before: that of a frame with a byte of payload behind it
@@ -28,4 +28,4 @@ opened_as_before nwk app counter f = on_data (λ d. opened_under (selected_by (c
 -- opening a data frame f that has no byte of payload: 6 without the network key, and with it alone it opens; every byte stays
 pub record OpensEmpty (f : List ℕ) : Type 0 where
   pub without : (nwk app : MaybeKey) (counter : ℕ) → nwk.given ≡ false → data_opened nwk app counter f ≡ unopened f (refused 6)
-  pub with_it : (nwk app : MaybeKey) (counter : ℕ) → nwk.given ≡ true → data_opened nwk app counter f ≡ result Opened f
+  pub with_it : (nwk app : MaybeKey) (counter : ℕ) → nwk.given ≡ true → data_opened nwk app counter f ≡ outcome Opened f

@@ -15,7 +15,7 @@ use Rattle.frame.specs.declared.join_fields.JoinRequestFields.{JoinRequestFields
 use Rattle.frame.specs.declared.parser.Reading.TheVariants.{JoinRequest, JoinAccept, Data}
 use Rattle.frame_security.specs.Security.{crypted, frame_key, data_mic_of, join_mic}
 use Rattle.frame_opening.specs.CheckedOpening.{data_opened_checked, accept_opened_checked}
-use Rattle.frame_opening.specs.FrameOpening.{result, given_key, data_test_of, data_opened, join_request_test, join_accept_test}
+use Rattle.frame_opening.specs.FrameOpening.{outcome, given_key, data_test_of, data_opened, join_request_test, join_accept_test}
 use Rattle.frame_opening.specs.declared.mic_tests.MicTest.TheVariants.{Passes}
 use Rattle.frame_opening.specs.declared.payload.Opening.TheVariants.{Opened}
 use Rattle.frame_build.specs.DataBuilding.{fopts_of, body_of, data_header}
@@ -58,9 +58,9 @@ pub record DataBack (nwk app : List ℕ) (d : DataParts) (commands body f : List
 pub record DataOpens (nwk app : List ℕ) (d : DataParts) (commands body f : List ℕ) : Type 0 where
   pub passes : data_test_of nwk d.fcnt f ≡ Passes
   pub opens : data_opened (given_key nwk) (given_key app) d.fcnt f
-      ≡ result Opened (data_header d commands ++ (body_of d.port commands body ++ mic_of_of f))
+      ≡ outcome Opened (data_header d commands ++ (body_of d.port commands body ++ mic_of_of f))
   pub opens_checked : data_opened_checked nwk (given_key app) d.fcnt f
-      ≡ result Opened (data_header d commands ++ (body_of d.port commands body ++ mic_of_of f))
+      ≡ outcome Opened (data_header d commands ++ (body_of d.port commands body ++ mic_of_of f))
   pub opens_to_amend : open_of f nwk app d.fcnt ≡ accepted_opening (opened_of f nwk app d.fcnt)
 
 pub record DataReadsBack (nwk app : List ℕ) (d : DataParts) (commands body f : List ℕ) : Type 0 where
@@ -105,7 +105,7 @@ built_fields j channels = listed_fields j channels j.with_c_f_list
 
 pub record AcceptReadsBack (key : List ℕ) (j : JoinAcceptParts) (channels f : List ℕ) : Type 0 where
   pub reads : read_of f ≡ JoinAccept (join_accept_length j)
-  pub opens : accept_opened_checked key f ≡ result Opened (signed key (join_accept_body j channels))
+  pub opens : accept_opened_checked key f ≡ outcome Opened (signed key (join_accept_body j channels))
   pub clear_reads : read_of (accept_opened_checked key f).bytes ≡ JoinAccept (join_accept_length j)
   pub passes : join_accept_test key (accept_opened_checked key f).bytes ≡ Passes
   pub fields : join_accept_fields_of (accept_opened_checked key f).bytes ≡ built_fields j channels

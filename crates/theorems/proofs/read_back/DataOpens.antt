@@ -12,7 +12,7 @@ use Rattle.frame.specs.Conditions.{IsData}
 use Rattle.frame.proofs.ReadingLaws.{data_read}
 use Rattle.frame.specs.ReadingNumbers.{on_data}
 use Rattle.frame.specs.Refusals.{refused}
-use Rattle.frame_opening.specs.FrameOpening.{result, unopened, data_passes, opened_under, data_opened, given_key}
+use Rattle.frame_opening.specs.FrameOpening.{outcome, unopened, data_passes, opened_under, data_opened, given_key}
 use Rattle.frame_opening.specs.CheckedOpening.{opened_tested, data_opened_checked}
 use Rattle.frame_security.specs.Security.{crypted, frame_key, full_counter_of, covered, data_mic_of}
 use Rattle.frame_security.proofs.MicCompared.{test_of_same}
@@ -33,12 +33,12 @@ module _ (nwk app : List ℕ) (d : DataParts) (commands body f : List ℕ) (b : 
   whole_counter = omega (arith, b.count)
 
   opened_back : data_opened (given_key nwk) (given_key app) d.fcnt f
-      ≡ result Opened (data_header d commands ++ (body_of d.port commands body ++ mic_of_of f))
+      ≡ outcome Opened (data_header d commands ++ (body_of d.port commands body ++ mic_of_of f))
   opened_back =
       opened_both nwk app f d.fcnt is_data
-      ∙ ap (λ (c : ℕ). result Opened (header f ++ (crypted (frame_key f nwk app) (header f) c (payload f) ++ mic_of_of f)))
+      ∙ ap (λ (c : ℕ). outcome Opened (header f ++ (crypted (frame_key f nwk app) (header f) c (payload f) ++ mic_of_of f)))
       whole_counter
-      ∙ ap₂ (λ (s t : List ℕ). result Opened (s ++ (t ++ mic_of_of f))) b.header_back b.payload_back
+      ∙ ap₂ (λ (s t : List ℕ). outcome Opened (s ++ (t ++ mic_of_of f))) b.header_back b.payload_back
 
   -- where the MIC is right, the checked opening is the plain one
   checked_back : data_opened_checked nwk (given_key app) d.fcnt f ≡ data_opened (given_key nwk) (given_key app) d.fcnt f

@@ -14,7 +14,7 @@ use Rattle.frame.specs.ReadingNumbers.{on_request, on_accept}
 use Rattle.frame.specs.Refusals.{refused}
 use Rattle.frame.specs.declared.parser.Reading.TheVariants.{JoinAccept}
 use Rattle.frame.proofs.ReadingLaws.{request_read, accept_read}
-use Rattle.frame_opening.specs.FrameOpening.{Result, result, unopened, join_passes, join_accept_test}
+use Rattle.frame_opening.specs.FrameOpening.{Result, outcome, unopened, join_passes, join_accept_test}
 use Rattle.frame_opening.specs.CheckedOpening.{accept_tested, accept_opened_checked}
 use Rattle.frame_security.specs.JoinAcceptCipher.{accept_decrypted}
 use Rattle.frame_security.specs.Security.{covered, join_mic}
@@ -42,11 +42,11 @@ module _ (key : List ℕ) (j : JoinAcceptParts) (channels f : List ℕ) (b : Acc
   g = accept_decrypted key f
 
   -- the checked opening accepts it, and leaves what decryption makes
-  opened : accept_opened_checked key f ≡ result Opened g
+  opened : accept_opened_checked key f ≡ outcome Opened g
   unfolding accept_opened_checked accept_tested join_passes
   opened =
       ap (on_accept (λ n. accept_tested key f) (unopened f)) b.reads
-      ∙ ap (λ (t : Bool). pick t (result Opened g) (unopened f (refused 5)))
+      ∙ ap (λ (t : Bool). pick t (outcome Opened g) (unopened f (refused 5)))
       (test_of_same (mic_of_of g) (join_mic key (covered g)) b.mic)
 
   left : g ≡ (accept_opened_checked key f).bytes
@@ -65,7 +65,7 @@ module _ (key : List ℕ) (j : JoinAcceptParts) (channels f : List ℕ) (b : Acc
   accept_opens =
       record {
         reads = b.reads;
-        opens = opened ∙ ap (result Opened) b.clear;
+        opens = opened ∙ ap (outcome Opened) b.clear;
         clear_reads = subst (λ (l : List ℕ). read_of l ≡ JoinAccept (join_accept_length j)) left b.clear_reads;
         passes = subst (λ (l : List ℕ). join_accept_test key l ≡ Passes) left clear_passes;
         fields = subst (λ (l : List ℕ). join_accept_fields_of l ≡ built_fields j channels) left clear_fields;

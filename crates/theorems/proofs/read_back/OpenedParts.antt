@@ -17,7 +17,7 @@ use Rattle.frame.proofs.LayoutLaws.{placed}
 use Rattle.frame.proofs.ReadingLaws.{reads_data}
 use Rattle.frame_security.specs.Security.{crypted, crypted_part, by_network_key_of, frame_key, full_counter_of}
 use Rattle.frame_security.proofs.SecurityLaws.{crypted_same}
-use Rattle.frame_opening.specs.FrameOpening.{result, unopened, decrypted, opened_under, data_opened, given_key}
+use Rattle.frame_opening.specs.FrameOpening.{outcome, unopened, decrypted, opened_under, data_opened, given_key}
 use Rattle.frame_opening.specs.declared.payload.Opening.TheVariants.{Opened}
 
 -- of two keys that are given, the one that a test picks is given, and is the key that the test picks
@@ -40,7 +40,7 @@ module _ (nwk app f : List ℕ) (counter : ℕ) (h : IsData f) where
       (full_counter_of counter (fcnt f)) (payload f)
 
   -- both keys given: the frame with its payload decrypted
-  pub opened_decrypted : data_opened (given_key nwk) (given_key app) counter f ≡ result Opened (decrypted key counter f)
+  pub opened_decrypted : data_opened (given_key nwk) (given_key app) counter f ≡ outcome Opened (decrypted key counter f)
   unfolding data_opened opened_under
   opened_decrypted =
       ap (on_data (λ d. opened_under (frame_key f (given_key nwk) (given_key app)) counter f) (unopened f)) (reads_data f h)
@@ -48,10 +48,10 @@ module _ (nwk app f : List ℕ) (counter : ℕ) (h : IsData f) where
 
   -- which is header, clear payload, MIC
   pub opened_both : data_opened (given_key nwk) (given_key app) counter f
-      ≡ result Opened (header f ++ (clear_payload ++ mic_of_of f))
+      ≡ outcome Opened (header f ++ (clear_payload ++ mic_of_of f))
   unfolding decrypted crypted_part
   opened_both =
       opened_decrypted
-      ∙ ap (result Opened)
+      ∙ ap (outcome Opened)
       (append_assoc (header f) (crypted key f (full_counter_of counter (fcnt f)) (payload f)) (mic_of_of f)
       ∙ ap (λ (s : List ℕ). header f ++ (s ++ mic_of_of f)) clear_is)

@@ -25,7 +25,7 @@ use Rattle.frame.proofs.LayoutLaws.{placed, length-payload}
 use Rattle.frame.proofs.ReadingLaws.{reads_data, data_read}
 use Rattle.frame_security.specs.Security.{by_network_key_of, frame_key, full_counter_of}
 use Rattle.frame_security.proofs.SecurityLaws.{by_port, crypted_part-nothing}
-use Rattle.frame_opening.specs.FrameOpening.{result, unopened, decrypted, opened_under, data_opened}
+use Rattle.frame_opening.specs.FrameOpening.{outcome, unopened, decrypted, opened_under, data_opened}
 use Rattle.frame_opening.specs.declared.payload.Opening.TheVariants.{Opened}
 use Rattle.theorems.specs.KeyChoice.{crate_reports, selected_by, opened_as_before, OpensEmpty}
 
@@ -77,11 +77,11 @@ module _ (f : List ℕ) (h : IsData f) where
         ∙ ap (λ (k : MaybeKey). opened_under k counter f) (by_empty none nwk app)
 
     by_given : (nwk app : MaybeKey) (counter : ℕ) {b : Bool} → nwk.given ≡ b
-        → data_opened nwk app counter f ≡ pick b (result Opened f) (unopened f (refused 6))
+        → data_opened nwk app counter f ≡ pick b (outcome Opened f) (unopened f (refused 6))
     unfolding opened_under
     by_given nwk app counter e =
         by_network nwk app counter
-        ∙ ap₂ (λ (c : Bool) (l : List ℕ). pick c (result Opened l) (unopened f (refused 6))) e (stays nwk.key counter)
+        ∙ ap₂ (λ (c : Bool) (l : List ℕ). pick c (outcome Opened l) (unopened f (refused 6))) e (stays nwk.key counter)
 
     pub opens_empty : OpensEmpty f
     opens_empty =

@@ -28,7 +28,7 @@ use Rattle.frame_security.specs.JoinAcceptCipher.{accept_decrypted}
 use Rattle.frame_security.specs.Mic.{same_bytes}
 use Rattle.frame_security.specs.Security.{frame_key, covered, data_mic_of, join_mic}
 use Rattle.frame_security.proofs.MicCompared.{same_of_test, test_of_same}
-use Rattle.frame_opening.specs.FrameOpening.{join_passes, data_passes, answered, join_request_test, join_accept_test, data_test_of, Result, unopened, result, decrypted, opened_under, data_opened, given_key, opening_refusal}
+use Rattle.frame_opening.specs.FrameOpening.{join_passes, data_passes, answered, join_request_test, join_accept_test, data_test_of, Result, unopened, outcome, decrypted, opened_under, data_opened, given_key, opening_refusal}
 use Rattle.frame_opening.specs.JoinAcceptOpening.{accept_opened}
 use Rattle.frame_opening.specs.SessionKeys.{derived_keys, no_keys_of, session_keys_of}
 use Rattle.frame_opening.specs.declared.join_accept.SessionKeys.{SessionKeys}
@@ -105,7 +105,7 @@ key_gives : (nwk app : MaybeKey) (counter : ℕ) (f : List ℕ) → IsData f
 unfolding opened_under
 key_gives nwk app counter f h =
     let key = frame_key f nwk app in
-    rw (through (λ (r : Result). r.answer) key.given (result Opened (decrypted key.key counter f)) (unopened f (refused 6)))
+    rw (through (λ (r : Result). r.answer) key.given (outcome Opened (decrypted key.key counter f)) (unopened f (refused 6)))
     (passed opening_of opening_refusal told_opening tt key.given
     (if_when (not key.given) (if_not key.given (if_missing f h nwk app)))
     (no_more opening_of opening_refusal told_opening))
@@ -126,7 +126,7 @@ unfolding accept_tested join_passes
 accept_gives key f =
     let clear = accept_decrypted key f in
     let right = same_bytes (mic_of_of clear) (join_mic key (covered clear)) in
-    rw (through (λ (r : Result). r.answer) right (result Opened clear) (unopened f (refused 5)))
+    rw (through (λ (r : Result). r.answer) right (outcome Opened clear) (unopened f (refused 5)))
     (passed opening_of opening_refusal told_opening tt right (if_unless right (if_right (mic_of_of clear) (join_mic key (covered clear))))
     (no_more opening_of opening_refusal told_opening))
 
@@ -146,7 +146,7 @@ checked_opening nwk app counter f = opens_after data_frame f (opened_tested nwk 
 pub accept_opening : (key f : List ℕ) → AfterReading Refused opening_of join_accept f [] (accept_opened key f).answer
 unfolding accept_opened
 accept_opening key f =
-    opens_after join_accept f (result Opened (accept_decrypted key f)) (λ h. no_more opening_of opening_refusal told_opening)
+    opens_after join_accept f (outcome Opened (accept_decrypted key f)) (λ h. no_more opening_of opening_refusal told_opening)
 
 -- checked opening of a join-accept: reading, 5
 pub checked_accept : (key f : List ℕ)
