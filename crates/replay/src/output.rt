@@ -4,8 +4,12 @@ use frame::refusals::Refusal;
 use std::io;
 use std::io::Write;
 
+fn wide(b: u8) -> u64 {
+    b as u64
+}
+
 pub fn put<W: Write>(line: &mut W, b: u8) -> io::Result<()> {
-    write!(line, "{b:02x}")
+    write!(line, "{:02x}", wide(b))
 }
 
 // The first n bytes, and zeros where there are not so many.

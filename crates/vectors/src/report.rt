@@ -52,9 +52,13 @@ pub(crate) fn closed<W: Write>(out: &mut W, t: Tally) -> io::Result<()> {
     writeln!(out, "{} vectors, {} the same", t.vectors, t.same)
 }
 
+fn wide(b: u8) -> u64 {
+    b as u64
+}
+
 fn put_digits<W: Write>(out: &mut W, block: [u8; 16]) -> io::Result<()> {
     for b in block {
-        write!(out, "{b:02x}")?;
+        write!(out, "{:02x}", wide(b))?;
     }
     Ok(())
 }
