@@ -3,14 +3,12 @@
 -- Assumes nothing.
 use mathlib.Core.Path.{◌≡◌, sym, ap, ap₂, ◌∙◌, subst}
 use mathlib.Core.Bool.{Bool, true, false}
-use mathlib.Core.List.{List, [], ◌∷◌, ◌++◌}
+use mathlib.Core.List.{List, ◌++◌}
 use Prim.Native.Nat.{ℕ, ◌+◌, ◌-◌, ◌*◌, ◌%◌, ◌≤◌, ◌<◌}
 use native.Mathlib.Omega.{arith}
 use lib.ListN.{length, take, drop, replicate, length-replicate, get_or-replicate, length-drop}
 use lib.Seq.{sets, sets-eq, length-sets, get_or-drop, take_at}
 use borrow.Author.Tests.{eq-eqb, ne_eqb}
-use denote.Enum.Declared.{tag_of}
-use types.Run.{OneOf}
 use Rattle.base.specs.Bytes.{pick, part, xor_lists}
 use Rattle.base.proofs.Tab.{same_at}
 use Rattle.base.proofs.Lent.{part_long}
@@ -30,7 +28,6 @@ use Rattle.frame.specs.declared.parser.DataFrame.{DataFrame}
 use Rattle.frame.specs.declared.parser.Reading.TheVariants.{Data}
 use Rattle.frame.proofs.Others.{not_data}
 use Rattle.frame.proofs.ReadingLaws.{reads_data, data_fields}
-use Rattle.frame.specs.contracts.parser.Reading as R
 use Rattle.frame_security.proofs.SecurityLaws.{mic_block_of_long}
 use Rattle.frame.specs.Refusals.{refused}
 use Rattle.amend.specs.Amending.{open_state, last_place, chained, signed_from}
@@ -161,7 +158,7 @@ module _ (f nwk app : List ℕ) (counter : ℕ) where
   counter_wrong n = simp (ne_eqb (counter % 65536) (fcnt f) n)
 
   -- a reading of another type
-  pub open_other : OneOf (0 ∷ 1 ∷ 3 ∷ []) (tag_of R.the_type (read_of f))
+  pub open_other : ((d : DataFrame) → read_of f ≡ Data d → ⊥)
       → open_of f nwk app counter ≡ refused_opening (other_refusal_of (read_of f))
   unfolding open_of
   open_other h = not_data refused_opening (λ d. open_data f nwk app counter) (read_of f) h

@@ -3,7 +3,7 @@
 -- afresh. The message of the MIC is B_0, one block, and then the frame up to its MIC, so that the frame's block
 -- i is the message's block i + 1; place i of the chain values is what stands ahead of the frame's block i.
 -- Assumes nothing.
-use Rattle.std.specs.Prelude.{List, ℕ, zero, suc, ◌+◌, ◌-◌, ◌*◌, ◌/◌, leb, ltb, length, take, set}
+use Rattle.std.specs.Prelude.{List, ℕ, zero, suc, ◌+◌, ◌-◌, ◌*◌, ◌/◌, leb, ltb, take, set}
 use Rattle.std.proofs.lemmas.List.Edits.{sets}
 use Rattle.base.specs.Bytes.{pick, part, ◌⊕◌, xor_lists}
 use Rattle.aes.specs.Fips197.{cipher}

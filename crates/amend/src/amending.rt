@@ -26,7 +26,7 @@ pub struct Open {
 }
 
 // What an amendment gives: 0 and the amended state, or a refusal and the state that it was given.
-#[derive(Clone, Copy)]
+#[derive(Drop)]
 pub struct Amended {
     pub refusal: Refusal,
     pub state: Open,

@@ -14,7 +14,7 @@ use frame_security::mic::same_mic;
 use frame_security::securityhelpers::mic_block;
 
 // What opening gives: 0 and the open frame, or a refusal and the state that is all zeros.
-#[derive(Clone, Copy)]
+#[derive(Drop)]
 pub struct Opened {
     pub refusal: Refusal,
     pub state: Open,
