@@ -5,8 +5,7 @@ ghost use Rattle.frame_c.specs.CAnswers.{refusal_answer_of};
 
 use crate::conversions::answers::refusal_answer;
 
-#[unsafe(no_mangle)]
-pub extern "C" fn zinovoky_amend(
+pub fn zinovoky_amend(
     frame: &mut [u8],
     nwk_skey: &[u8; 16],
     app_skey: &[u8; 16],

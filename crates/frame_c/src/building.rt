@@ -11,8 +11,7 @@ use frame::packed::numbered_bits;
 use frame::refusals::{INVALID_DATA, INVALID_MESSAGE_TYPE};
 use frame_build::creator::join::JoinRequestParts;
 
-#[unsafe(no_mangle)]
-pub extern "C" fn zinovoky_build_join_request(
+pub fn zinovoky_build_join_request(
     app_eui: &[u8; 8],
     dev_eui: &[u8; 8],
     dev_nonce: &[u8; 2],
@@ -37,8 +36,7 @@ pub extern "C" fn zinovoky_build_join_request(
     built_answer(built)
 }
 
-#[unsafe(no_mangle)]
-pub extern "C" fn zinovoky_build_join_accept(
+pub fn zinovoky_build_join_accept(
     fixed: &[u8; 12],
     with_list: u8,
     channels: &[u32],
@@ -58,8 +56,7 @@ pub extern "C" fn zinovoky_build_join_accept(
     built_answer(built)
 }
 
-#[unsafe(no_mangle)]
-pub extern "C" fn zinovoky_build_data(
+pub fn zinovoky_build_data(
     kind: u8,
     dev_addr: &[u8; 4],
     fctrl: u8,

@@ -11,8 +11,7 @@ use frame::packed::numbered_bits;
 use mac_commands::maccommands::{RawStep, read_raw};
 
 // The six numbers of a command that was found are stored; at the end of the list and by a refusal nothing is.
-#[unsafe(no_mangle)]
-pub extern "C" fn zinovoky_read_command(
+pub fn zinovoky_read_command(
     uplink: u8,
     bytes: &[u8],
     offset: usize,
@@ -33,8 +32,7 @@ pub extern "C" fn zinovoky_read_command(
     }
 }
 
-#[unsafe(no_mangle)]
-pub extern "C" fn zinovoky_write_command(
+pub fn zinovoky_write_command(
     uplink: u8,
     command: &[i64; 6],
     out: &mut [u8],

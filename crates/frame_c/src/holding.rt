@@ -10,8 +10,7 @@ ghost use Rattle.frame_c.specs.CAnswers.{refusal_answer_of, taken_answer};
 use crate::conversions::answers::refusal_answer;
 use frame::packed::numbered_bits;
 
-#[unsafe(no_mangle)]
-pub extern "C" fn zinovoky_hold(
+pub fn zinovoky_hold(
     frame: &[u8],
     nwk_skey: &[u8; 16],
     app_skey: &[u8; 16],
@@ -30,8 +29,7 @@ pub extern "C" fn zinovoky_hold(
     refusal_answer(refusal)
 }
 
-#[unsafe(no_mangle)]
-pub extern "C" fn zinovoky_held_amend(buffer: &mut [u8; 868], offset: usize, value: u8) -> u64
+pub fn zinovoky_held_amend(buffer: &mut [u8; 868], offset: usize, value: u8) -> u64
     ensures value { result ≡ refusal_answer_of (amend_of (loaded_open buffer.old) offset value).refusal }
     ensures buffer_after { buffer.new ≡ amended_into (amend_of (loaded_open buffer.old) offset value) buffer.old }
 {
@@ -39,8 +37,7 @@ pub extern "C" fn zinovoky_held_amend(buffer: &mut [u8; 868], offset: usize, val
     refusal_answer(refusal)
 }
 
-#[unsafe(no_mangle)]
-pub extern "C" fn zinovoky_held_amend_list(buffer: &mut [u8; 868], amendments: &[u32]) -> u64
+pub fn zinovoky_held_amend_list(buffer: &mut [u8; 868], amendments: &[u32]) -> u64
     ensures value { result ≡ refusal_answer_of (amend_list_of (loaded_open buffer.old) amendments.now).refusal }
     ensures buffer_after { buffer.new
         ≡ amended_into (amend_list_of (loaded_open buffer.old) amendments.now) buffer.old }
@@ -49,8 +46,7 @@ pub extern "C" fn zinovoky_held_amend_list(buffer: &mut [u8; 868], amendments: &
     refusal_answer(refusal)
 }
 
-#[unsafe(no_mangle)]
-pub extern "C" fn zinovoky_held_frame(buffer: &[u8; 868], out: &mut [u8]) -> u64
+pub fn zinovoky_held_frame(buffer: &[u8; 868], out: &mut [u8]) -> u64
     ensures value { result ≡ taken_answer (taken_of (loaded_open buffer.now) (length out.old)) }
     ensures out_after { out.new ≡ taken_into (loaded_open buffer.now) out.old }
 {

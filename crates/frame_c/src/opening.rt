@@ -12,8 +12,7 @@ use crate::conversions::answers::{opening_answer, test_answer};
 use crate::conversions::opening::store_keys;
 use frame::keys::MaybeKey;
 
-#[unsafe(no_mangle)]
-pub extern "C" fn zinovoky_join_request_mic(
+pub fn zinovoky_join_request_mic(
     frame: &[u8],
     app_key: &[u8; 16],
     passes: &mut u8,
@@ -27,8 +26,7 @@ pub extern "C" fn zinovoky_join_request_mic(
     test_answer(test, passes)
 }
 
-#[unsafe(no_mangle)]
-pub extern "C" fn zinovoky_join_accept_mic(frame: &[u8], app_key: &[u8; 16], passes: &mut u8) -> u64
+pub fn zinovoky_join_accept_mic(frame: &[u8], app_key: &[u8; 16], passes: &mut u8) -> u64
     ensures value { result ≡ test_answer_of (join_accept_test app_key.now frame.now) }
     ensures passes_after { passes.new
         ≡ passes_of (join_accept_test app_key.now frame.now) passes.old }
@@ -38,8 +36,7 @@ pub extern "C" fn zinovoky_join_accept_mic(frame: &[u8], app_key: &[u8; 16], pas
     test_answer(test, passes)
 }
 
-#[unsafe(no_mangle)]
-pub extern "C" fn zinovoky_data_mic(
+pub fn zinovoky_data_mic(
     frame: &[u8],
     nwk_skey: &[u8; 16],
     counter: u32,
@@ -54,8 +51,7 @@ pub extern "C" fn zinovoky_data_mic(
     test_answer(test, passes)
 }
 
-#[unsafe(no_mangle)]
-pub extern "C" fn zinovoky_decrypt_data(
+pub fn zinovoky_decrypt_data(
     frame: &mut [u8],
     keys_given: u8,
     nwk_skey: &[u8; 16],
@@ -84,8 +80,7 @@ pub extern "C" fn zinovoky_decrypt_data(
     opening_answer(opening)
 }
 
-#[unsafe(no_mangle)]
-pub extern "C" fn zinovoky_decrypt_data_checked(
+pub fn zinovoky_decrypt_data_checked(
     frame: &mut [u8],
     keys_given: u8,
     nwk_skey: &[u8; 16],
@@ -110,8 +105,7 @@ pub extern "C" fn zinovoky_decrypt_data_checked(
     opening_answer(opening)
 }
 
-#[unsafe(no_mangle)]
-pub extern "C" fn zinovoky_decrypt_join_accept(frame: &mut [u8], app_key: &[u8; 16]) -> u64
+pub fn zinovoky_decrypt_join_accept(frame: &mut [u8], app_key: &[u8; 16]) -> u64
     ensures value { result ≡ opening_answer_of (accept_opened app_key.now frame.old).answer }
     ensures frame_after { frame.new ≡ (accept_opened app_key.now frame.old).bytes }
 {
@@ -120,8 +114,7 @@ pub extern "C" fn zinovoky_decrypt_join_accept(frame: &mut [u8], app_key: &[u8; 
     opening_answer(opening)
 }
 
-#[unsafe(no_mangle)]
-pub extern "C" fn zinovoky_decrypt_join_accept_checked(frame: &mut [u8], app_key: &[u8; 16]) -> u64
+pub fn zinovoky_decrypt_join_accept_checked(frame: &mut [u8], app_key: &[u8; 16]) -> u64
     ensures value { result ≡ opening_answer_of (accept_opened_checked app_key.now frame.old).answer }
     ensures frame_after { frame.new ≡ (accept_opened_checked app_key.now frame.old).bytes }
 {
@@ -130,8 +123,7 @@ pub extern "C" fn zinovoky_decrypt_join_accept_checked(frame: &mut [u8], app_key
     opening_answer(opening)
 }
 
-#[unsafe(no_mangle)]
-pub extern "C" fn zinovoky_session_keys(
+pub fn zinovoky_session_keys(
     frame: &[u8],
     dev_nonce: &[u8; 2],
     app_key: &[u8; 16],

@@ -11,31 +11,27 @@ use frame::join_fields::{join_accept_fields, join_request_fields};
 use frame::packed::read_packed;
 use frame_bits::fctrl::nwk_id;
 
-#[unsafe(no_mangle)]
-pub extern "C" fn zinovoky_read(frame: &[u8]) -> u64
+pub fn zinovoky_read(frame: &[u8]) -> u64
     ensures { result ≡ packed_of (read_of frame.now) }
 {
     read_packed(frame)
 }
 
-#[unsafe(no_mangle)]
-pub extern "C" fn zinovoky_join_request_fields(frame: &[u8], fields: &mut [u8]) -> u64
+pub fn zinovoky_join_request_fields(frame: &[u8], fields: &mut [u8]) -> u64
     ensures { RequestInto (join_request_fields_of frame.now) fields.old result fields.new }
 {
     let found = join_request_fields(frame);
     store_request(found, fields)
 }
 
-#[unsafe(no_mangle)]
-pub extern "C" fn zinovoky_join_accept_fields(frame: &[u8], fields: &mut [u8]) -> u64
+pub fn zinovoky_join_accept_fields(frame: &[u8], fields: &mut [u8]) -> u64
     ensures { AcceptInto (join_accept_fields_of frame.now) fields.old result fields.new }
 {
     let found = join_accept_fields(frame);
     store_accept(found, fields)
 }
 
-#[unsafe(no_mangle)]
-pub extern "C" fn zinovoky_nwk_id(dev_addr: &[u8; 4]) -> u8
+pub fn zinovoky_nwk_id(dev_addr: &[u8; 4]) -> u8
     ensures { result ≡ nwk_id_of dev_addr.now }
 {
     let addr = *dev_addr;

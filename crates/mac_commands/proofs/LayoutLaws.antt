@@ -4,18 +4,17 @@
 use mathlib.Core.Path.{◌≡◌, refl, sym, ap, ap₂, ◌∙◌, subst}
 use mathlib.Core.Bool.{Bool, true, false, not}
 use mathlib.Core.List.{List, [], ◌∷◌}
-use Prim.Native.Nat.{ℕ, zero, suc, ◌+◌, ◌-◌, ◌*◌, ◌/◌, ◌%◌, ◌^◌, ◌≤◌, ◌<◌}
-use native.Mathlib.Nat.{mod-eq_of_lt, div-eq_of_lt, add-mul-mod_self_left, add-mul-div_left, mod-add-div, mul-div_cancel_left, div-lt_iff_lt-mul, mod-lt, zero-add, div-one, div-div-eq-div-mul, mul-le-mul_left, mul-suc}
+use Prim.Native.Nat.{ℕ, zero, suc, ◌+◌, ◌*◌, ◌/◌, ◌%◌, ◌^◌, ◌≤◌, ◌<◌}
+use native.Mathlib.Nat.{mod-eq_of_lt, div-eq_of_lt, add-mul-mod_self_left, add-mul-div_left, mod-add-div, mul-div_cancel_left, div-lt_iff_lt-mul, zero-add, div-one, div-div-eq-div-mul, mul-le-mul_left, mul-suc}
 use native.Mathlib.Omega.{arith}
 use lib.Dec.{ltb, eqb}
 use lib.Pow.{pow_pos, pow-add}
 use borrow.Author.Tests.{ltb-true, lt-ltb, eqb-true, eq-eqb, ne_eqb, not-true}
 use lib.ListN.{length}
-use Rattle.base.specs.Bytes.{pick, at, tab, AreBytes}
+use Rattle.base.specs.Bytes.{pick, at, AreBytes}
 use Rattle.base.proofs.Tested.{both}
 use Rattle.base.proofs.Cases.{by_bool}
-use Rattle.base.proofs.Tab.{at-tab}
-use Rattle.mac_commands.specs.Layout.{Piece, field, spare, bits_of, place_in_row, width_at, field_at, fields_of, number_of, fits, Clear, low_first, bytes_of}
+use Rattle.mac_commands.specs.Layout.{Piece, field, spare, bits_of, place_in_row, width_at, field_at, number_of, fits, Clear, low_first, bytes_of}
 
 -- both of two tests
 pub both_1 : (a b : Bool) → both a b ≡ true → a ≡ true

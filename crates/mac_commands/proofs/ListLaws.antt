@@ -1,7 +1,7 @@
 -- A list of commands: it is a step and then the list from the next place, which the steps that a caller takes give too; written
 -- one after the other commands read back, and a list that was read is written back where its reserved bits were 0.
 -- Assumes nothing.
-use mathlib.Core.Path.{◌≡◌, refl, sym, ap, ap₂, ◌∙◌, subst}
+use mathlib.Core.Path.{◌≡◌, refl, sym, ap, ap₂, ◌∙◌}
 use mathlib.Core.Bool.{Bool, true}
 use mathlib.Core.List.{List, [], ◌∷◌, ◌++◌}
 use Prim.Native.Nat.{ℕ, zero, suc, ◌+◌, ◌-◌, ◌≤◌, ◌<◌}
@@ -10,19 +10,18 @@ use lib.ListN.{length, take, drop, length-append, length-drop, take-append-drop}
 use lib.Seq.{sets, sets-eq, length-sets, drop-length, drop-drop, drop_at, take_at, length-take-le}
 use lib.Dec.{leb}
 use borrow.Author.Tests.{le-leb}
-use Rattle.base.specs.Bytes.{pick, at, part, AreBytes}
+use Rattle.base.specs.Bytes.{at, AreBytes}
 use Rattle.base.proofs.Put.{sets-append}
-use Rattle.frame.specs.declared.refusals.Refusal.{Refusal}
 use Rattle.mac_commands.specs.Layout.{Clear, row, row_of, size_of}
-use Rattle.mac_commands.specs.Commands.{step_at, row_at, values_of_of, fits_all, up_of, bytes_as, put_as, put_in, written_as, written_in, command_written, command_in}
-use Rattle.mac_commands.specs.Lists.{Placed, Listed, on_step, list_from, list_at, bytes_all, Sent, no_more, one_more, placed, Taken, at_end, at_fault, at_command, Output, on_written, write_all}
+use Rattle.mac_commands.specs.Commands.{step_at, row_at, fits_all, bytes_as, put_as, put_in, written_as, written_in, command_written, command_in}
+use Rattle.mac_commands.specs.Lists.{Listed, on_step, list_from, list_at, bytes_all, Sent, no_more, one_more, placed, Taken, at_end, at_fault, at_command, Output, on_written, write_all}
 use Rattle.mac_commands.specs.declared.maccommands.Command.{Command}
 use Rattle.mac_commands.specs.declared.maccommands.Step.{Step}
 use Rattle.mac_commands.specs.declared.maccommands.Step.TheVariants.{Found, End, Refused}
 use Rattle.mac_commands.specs.declared.maccommandcreator.Written.{Written}
 use Rattle.mac_commands.specs.declared.maccommandcreator.Written.TheVariants.{Upto}
 use Rattle.mac_commands.proofs.StepLaws.{ended}
-use Rattle.mac_commands.proofs.ReadBack.{bytes_count, reads_back, ReadAs, read_as, same_length, read_fits, number_behind, writes_back}
+use Rattle.mac_commands.proofs.ReadBack.{bytes_count, reads_back, ReadAs, read_as, number_behind, writes_back}
 
 -- ---- a list is a step and then the list from the next place
 

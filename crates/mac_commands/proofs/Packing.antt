@@ -14,7 +14,6 @@ use Rattle.base.specs.Bytes.{pick, at}
 use Rattle.base.proofs.Cases.{by_bool}
 use Rattle.mac_commands.specs.Layout.{count_in_row, number_of, fits, place_in_row, width_at, row}
 use Rattle.mac_commands.specs.Commands.{packed_of}
-use Rattle.mac_commands.specs.declared.maccommandcreator.Packed.{Packed}
 use Rattle.mac_commands.specs.declared.maccommandcreator.Packed.TheVariants.{Number, Unfit}
 use Rattle.mac_commands.proofs.LayoutLaws.{each_fits, fits_each, named_below}
 use Rattle.mac_commands.proofs.TableLaws.{sum, row_sum, row_distinct, row_within, row_named, count_most, end_most}

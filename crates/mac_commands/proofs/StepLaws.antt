@@ -5,16 +5,15 @@ use mathlib.Core.Bool.{Bool, true, false}
 use mathlib.Core.List.{List}
 use Prim.Native.Nat.{ℕ, ◌+◌, ◌≤◌, ◌<◌}
 use native.Mathlib.Omega.{arith}
-use lib.Dec.{ltb, leb}
+use lib.Dec.{leb}
 use lib.ListN.{length}
 use borrow.Author.Tests.{lt-ltb, le-ltb, le-leb, lt-leb, leb-true}
-use Rattle.base.specs.Bytes.{pick, at, part}
+use Rattle.base.specs.Bytes.{at, part}
 use Rattle.base.proofs.Cases.{by_bool, by_order}
 use Rattle.frame.specs.declared.refusals.Refusal.{Refusal}
 use Rattle.frame.specs.Refusals.{refusal}
 use Rattle.mac_commands.specs.Layout.{fields_of, row, row_of, known, size_of, low_first}
 use Rattle.mac_commands.specs.Commands.{command_of_of, raw_at, raw_step_at, step_of, step_at}
-use Rattle.mac_commands.specs.declared.maccommands.Step.{Step}
 use Rattle.mac_commands.specs.declared.maccommands.Step.TheVariants.{Found, End, Refused}
 use Rattle.mac_commands.specs.declared.maccommands.RawStep.{RawStep}
 use Rattle.mac_commands.specs.declared.maccommands.RawStep.TheVariants.{Found as RawFound, End as RawEnd, Refused as RawRefused}

@@ -2,16 +2,16 @@
 -- holds.
 -- Assumes nothing.
 use mathlib.Core.Path.{◌≡◌, refl, sym, ap, ap₂, ◌∙◌, subst}
-use mathlib.Core.Bool.{Bool, true, false, not}
+use mathlib.Core.Bool.{Bool, true, false}
 use mathlib.Core.List.{List, [], ◌∷◌, ◌++◌}
-use Prim.Native.Nat.{ℕ, zero, suc, ◌+◌, ◌-◌, ◌*◌, ◌/◌, ◌%◌, ◌^◌, ◌≤◌, ◌<◌}
+use Prim.Native.Nat.{ℕ, zero, suc, ◌+◌, ◌*◌, ◌/◌, ◌%◌, ◌^◌, ◌≤◌, ◌<◌}
 use native.Mathlib.Nat.{not-suc-le-zero, mod-lt}
 use native.Mathlib.Omega.{arith}
 use lib.ListN.{get_or-eq_default}
 use lib.Pow.{pow_pos}
-use lib.Dec.{T, ltb, leb, eqb, ltb→lt}
-use borrow.Author.Tests.{lt-ltb, le-ltb, eqb-true}
-use Rattle.base.specs.Bytes.{pick, at, tab}
+use lib.Dec.{T, ltb, eqb, ltb→lt}
+use borrow.Author.Tests.{lt-ltb, eqb-true}
+use Rattle.base.specs.Bytes.{pick, at}
 use Rattle.base.proofs.Tested.{below, passes, bounded, agree, last_or_less}
 use Rattle.base.proofs.Tab.{at-tab}
 use Rattle.mac_commands.specs.Layout.{Piece, bits_of, count_in_row, place_in_row, width_at, field_at, fields_of, fits, number_of, downs, ups, row, row_of, size_of}

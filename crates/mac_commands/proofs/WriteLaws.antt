@@ -2,8 +2,8 @@
 -- Assumes nothing.
 use mathlib.Core.Path.{◌≡◌, refl, sym, ap, ◌∙◌}
 use mathlib.Core.Bool.{Bool, true, false}
-use mathlib.Core.List.{List, [], ◌∷◌}
-use Prim.Native.Nat.{ℕ, zero, suc, ◌+◌, ◌-◌, ◌/◌, ◌%◌, ◌≤◌, ◌<◌}
+use mathlib.Core.List.{List}
+use Prim.Native.Nat.{ℕ, suc, ◌+◌, ◌-◌, ◌/◌, ◌%◌, ◌≤◌, ◌<◌}
 use native.Mathlib.Numerals.{add-one}
 use native.Mathlib.Omega.{arith}
 use lib.ListN.{length, set, length-set}
@@ -14,9 +14,7 @@ use Rattle.base.specs.Storing.{Put}
 use Rattle.frame.specs.Refusals.{refused}
 use Rattle.mac_commands.specs.Layout.{fits, number_of, row, row_of, known, size_of, bytes_of}
 use Rattle.mac_commands.specs.Commands.{row_bytes, packed_of, put_as, put_in, written_as, written_in, fields_written, fields_in}
-use Rattle.mac_commands.specs.declared.maccommandcreator.Packed.{Packed}
 use Rattle.mac_commands.specs.declared.maccommandcreator.Packed.TheVariants.{Number, Unfit}
-use Rattle.mac_commands.specs.declared.maccommandcreator.Written.{Written}
 use Rattle.mac_commands.specs.declared.maccommandcreator.Written.TheVariants.{Upto}
 use Rattle.mac_commands.specs.declared.maccommandcreator.Written.TheVariants.{Refused as Unwritten}
 use Rattle.mac_commands.proofs.LayoutLaws.{bytes_long}

@@ -1,7 +1,7 @@
 -- A command as a row of the table and its values, and back; one step of reading and the writing of one command, by the table
 -- (LoRaWAN 1.0.2, section 5; docs/RULES.md, MAC commands).
 -- Assumes nothing.
-use Rattle.std.specs.Prelude.{List, [], ◌∷◌, Bool, true, false, ℕ, zero, suc, ◌+◌, ◌-◌, ◌%◌, ltb, leb, ℤ, pos, negsuc, length, get_or}
+use Rattle.std.specs.Prelude.{List, [], ◌∷◌, Bool, ℕ, ◌+◌, ◌-◌, ◌%◌, ltb, leb, ℤ, pos, negsuc, length, get_or}
 use Rattle.std.proofs.lemmas.List.Edits.{sets}
 use Rattle.base.specs.Bytes.{pick, at, part}
 use Rattle.frame.specs.Refusals.{refusal, refused}

@@ -1,7 +1,7 @@
 -- The layouts of the MAC commands (LoRaWAN 1.0.2, section 5), each once: the bits behind the identifier, which are read as one
 -- number, low byte first. What a layout says of reading and of writing.
 -- Assumes nothing.
-use Rattle.std.specs.Prelude.{◌≡◌, Bool, true, false, List, [], ◌∷◌, ◌++◌, ℕ, zero, suc, ◌+◌, ◌-◌, ◌*◌, ◌/◌, ◌%◌, ◌^◌, ltb, leb, eqb, get_or}
+use Rattle.std.specs.Prelude.{◌≡◌, Bool, true, List, [], ◌∷◌, ◌++◌, ℕ, zero, suc, ◌+◌, ◌-◌, ◌*◌, ◌/◌, ◌%◌, ◌^◌, ltb, leb, eqb, get_or}
 use Rattle.base.specs.Bytes.{pick, at, tab}
 use Rattle.base.proofs.Tested.{both}
 

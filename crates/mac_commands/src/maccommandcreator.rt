@@ -48,6 +48,7 @@ pub fn raw_of(m: i64) -> u32
     m as u32
 }
 
+#[tactic(auto, unfolding(crate::specs::Commands::fields_as))]
 pub fn fields_of(command: Command) -> Fields
     ensures { result ≡ fields_as command }
 {

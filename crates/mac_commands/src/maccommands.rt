@@ -108,6 +108,7 @@ pub fn margin_of(x: u32) -> i8
 
 // The values of a row's fields, of the number behind its identifier; 0 for a field that it lacks, as for one of no row. Dividing by 1
 // names a field's place as the others do.
+#[tactic(auto, unfolding(crate::specs::Layout::row, crate::specs::Layout::downs, crate::specs::Layout::ups, crate::specs::Layout::place_in_row, crate::specs::Layout::width_at))]
 pub fn values_of(r: usize, v: u64) -> [u32; FIELDS_MAX]
     ensures { result ≡ fields_of (row r) v }
 {
@@ -171,6 +172,7 @@ pub fn values_of(r: usize, v: u64) -> [u32; FIELDS_MAX]
 }
 
 // The command of a row and of the values of its fields.
+#[tactic(auto, unfolding(crate::specs::Commands::commands, crate::specs::Commands::command_of_of, crate::specs::Layout::row, crate::specs::Layout::downs, crate::specs::Layout::ups, crate::specs::Layout::width_at))]
 fn command_of(r: usize, x: [u32; FIELDS_MAX]) -> Command
     requires { fits (row r) x ≡ true }
     ensures { result ≡ command_of_of r x }

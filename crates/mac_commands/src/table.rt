@@ -9,6 +9,7 @@ pub(crate) const FIELDS_MAX: usize = 5;
 
 // A row as one number, from bit 0 up: for each of five fields its lowest bit in 6 bits and its width in 5, then the count of fields
 // and the count of bytes in 3 each. A match becomes one load; a constant array would be copied at each use.
+#[tactic(auto, unfolding(crate::specs::Layout::row, crate::specs::Layout::downs, crate::specs::Layout::ups, crate::specs::Layout::bits_of, crate::specs::Layout::count_in_row, crate::specs::Layout::place_in_row, crate::specs::Layout::width_at, crate::specs::Table::table_row_of))]
 fn table_row(r: usize) -> u64
     ensures { result ≡ table_row_of r }
 {

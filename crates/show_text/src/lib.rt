@@ -1,5 +1,6 @@
 // The text that `show` writes for a frame (docs/RULES.md, Text).
 #![tactic(auto)]
+
 ghost use Rattle.std.specs.Prelude.{◌≡◌, [], ◌∷◌, ◌++◌, ◌+◌, ◌-◌, ◌*◌, ◌≤◌, ◌<◌, length};
 ghost use Rattle.base.specs.Bytes.{part};
 ghost use Rattle.base.specs.Storing.{Put};

@@ -1,2 +1,1 @@
-pub mod Accessor
 pub mod ShownFields

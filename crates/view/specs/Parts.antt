@@ -58,4 +58,4 @@ seen x = (x.ref_ptr, x.now)
 
 -- the same of a stretch of the slice x: it lies within x itself
 abbrev pub within : Bor (List ℕ) → ℕ × List ℕ → (ℕ × ℕ) × List ℕ
-within x p = ((x.ptr.0, p.0 + x.ptr.1), p.1)
+within x p = ((x.ref_ptr.0, p.0 + x.ref_ptr.1), p.1)
