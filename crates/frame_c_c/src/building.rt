@@ -59,5 +59,7 @@ pub extern "C" fn zinovoky_build_data(
         (data_parts_of kind dev_addr.now fctrl counter port) commands.now payload.now)
         out.old result out.new }
 {
-    frame_c::building::zinovoky_build_data(kind, dev_addr, fctrl, counter, port, commands, payload, nwk_skey, app_skey, out)
+    frame_c::building::zinovoky_build_data(
+        kind, dev_addr, fctrl, counter, port, commands, payload, nwk_skey, app_skey, out,
+    )
 }

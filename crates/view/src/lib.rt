@@ -15,7 +15,7 @@ use frame::parser::read;
 
 pub mod parts;
 
-#[derive(Drop)]
+#[derive(Clone, Copy)]
 pub struct View<'a> {
     pub bytes: &'a [u8],
     pub numbers: Values,

@@ -10,7 +10,7 @@ use Rattle.show_text.proofs.put_refusal.Goals as goal
 
 pub put_pair_line-requires : goal.put_pair_line-requires
 put_pair_line-requires c =
-    omega (arith, c.requires, length_refusal_line c.wide.result c.args.refusal.place)
+    omega (arith, c.requires, length_refusal_line)
 
 pub returns : goal.returns
 unfolding refusal_text

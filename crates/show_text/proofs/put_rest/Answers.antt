@@ -2,34 +2,31 @@
 -- are no longer than their laws say.
 -- Assumes nothing.
 use mathlib.Core.Path.{ap}
-use Prim.Native.Nat.{◌-◌, ◌≤◌}
 use native.Mathlib.Omega.{arith}
-use lib.ListN.{length}
 use Rattle.base.proofs.Put.{then, same}
-use Rattle.show_text.specs.Text.{fopts_word, mic_word, hex_line_of, number_line, rest_text}
+use Rattle.show_text.specs.Text.{mic_word, hex_line_of, rest_text}
 use Rattle.show_text.proofs.Fields.{fields, mic-part}
 use Rattle.show_text.proofs.Lengths.{length_small_line, length-port_line, length-payload_line}
 use Rattle.show_text.proofs.put_rest.Goals as goal
 
 pub overflow_sub-d : goal.overflow_sub-d
-overflow_sub-d c = (fields _ _ (λ i. (c.type_inv.frame i).fits) c.requires.fact c.requires.d_value).fopts_from
+overflow_sub-d c =
+    let known = fields _ _ (λ i. (c.type_inv.frame i).fits) c.requires.fact c.requires.d_value in
+    omega (arith, known.fopts_from)
 
 pub put_number_line-j-requires : goal.put_number_line-j-requires
 put_number_line-j-requires c =
     let known = fields _ _ (λ i. (c.type_inv.frame i).fits) c.requires.fact c.requires.d_value in
-    let first : length (number_line fopts_word (c.args.d.fopts_end - 8)) ≤ 12 = length_small_line fopts_word (c.args.d.fopts_end - 8) (omega (arith, known.fopts_most)) in
-    omega (arith, first, c.requires)
+    omega (arith, known.fopts_most, length_small_line, c.requires)
 
 pub put_port_line-k-requires : goal.put_port_line-k-requires
 put_port_line-k-requires c =
     let known = fields _ _ (λ i. (c.type_inv.frame i).fits) c.requires.fact c.requires.d_value in
-    let first : length (number_line fopts_word (c.args.d.fopts_end - 8)) ≤ 12 = length_small_line fopts_word (c.args.d.fopts_end - 8) (omega (arith, known.fopts_most)) in
-    omega (arith, c.put_number_line-j, c.requires, first)
+    omega (arith, known.fopts_most, length_small_line, c.put_number_line-j, c.requires)
 
 pub put_payload_line-l-requires : goal.put_payload_line-l-requires
 put_payload_line-l-requires c =
     let known = fields _ _ (λ i. (c.type_inv.frame i).fits) c.requires.fact c.requires.d_value in
-    let first : length (number_line fopts_word (c.args.d.fopts_end - 8)) ≤ 12 = length_small_line fopts_word (c.args.d.fopts_end - 8) (omega (arith, known.fopts_most)) in
     record {
       spans = known.spans;
       at_in_bounds = omega (
@@ -37,7 +34,7 @@ put_payload_line-l-requires c =
         c.put_number_line-j,
         c.put_port_line-k,
         c.requires,
-        first,
+        length_small_line,
         length-port_line c.args.d.port known.port_small,
       );
     }
@@ -45,7 +42,6 @@ put_payload_line-l-requires c =
 pub put_hex_line-requires : goal.put_hex_line-requires
 put_hex_line-requires c =
     let known = fields _ _ (λ i. (c.type_inv.frame i).fits) c.requires.fact c.requires.d_value in
-    let first : length (number_line fopts_word (c.args.d.fopts_end - 8)) ≤ 12 = length_small_line fopts_word (c.args.d.fopts_end - 8) (omega (arith, known.fopts_most)) in
     omega (
       arith,
       known,
@@ -53,7 +49,7 @@ put_hex_line-requires c =
       c.put_port_line-k,
       c.put_payload_line-l,
       c.requires,
-      first,
+      length_small_line,
       length-port_line c.args.d.port known.port_small,
       length-payload_line c.args.d.payload known.spans,
     )

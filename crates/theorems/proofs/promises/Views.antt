@@ -5,7 +5,7 @@ use mathlib.Core.Path.{◌≡◌, sym, ◌∙◌}
 use mathlib.Core.List.{List}
 use Prim.Native.Nat.{ℕ}
 use seplogic.Ra.Ura.{Ura}
-use base.Logic.{SProp, ent}
+use base.Logic.{SProp, ent, emp}
 use prog.Memory.{Memory}
 use prog.Routine.{Routine}
 use types.Logic.{Logic}
@@ -20,7 +20,6 @@ use Rattle.view.specs.Viewed.{view_of, part_of_of}
 use Rattle.view.specs.declared.parts.Field.{Field}
 use Rattle.view.specs.declared.parts.Field.TheVariants.{DevAddr, FOpts, Payload, AppEui, DevEui, DevNonce, Mic}
 use Rattle.view.proofs.part_of.Reads as part_of
-use Rattle.view.proofs.Accessor.{ended, shows_field}
 use Rattle.view.specs.contracts.View.of as made
 use Rattle.view.specs.contracts.View.part as part
 use Rattle.view.specs.contracts.View.dev_addr as dev-addr
@@ -63,10 +62,15 @@ module _ {M : Type 1} {𝓤 : Ura M} (𝓛 : Logic 𝓤) (mem : Memory → SProp
   pub part_fixed : Fixes 𝓤 part.ended (λ κs r. seen r) (part.clauses 𝓛 mem run)
   part_fixed κs a g x y s t = equal (seen x) (seen y) (part_of_of a.0 a.1.0)
 
-  abbrev Shows_one : Clauses 𝓤 ended → Type 1
-  Shows_one c = Fixes 𝓤 ended (λ κs r. seen r) c
+  -- the methods that show one field have one signature
+  abbrev Shows_one : Clauses 𝓤 dev-addr.ended → Type 1
+  Shows_one c = Fixes 𝓤 dev-addr.ended (λ κs r. seen r) c
 
-  one_field : (field : Field) → Shows_one (shows_field field 𝓤)
+  -- what is shown is that field of the view
+  abbrev shows_field : Field → Clauses 𝓤 dev-addr.ended
+  shows_field field κs a = record { ghost = Unit {0}; requires = λ g. emp 𝓤; ensures = λ g r end. fact 𝓤 (seen r ≡ part_of_of a.0 field) }
+
+  one_field : (field : Field) → Shows_one (shows_field field)
   one_field field κs a g x y s t = equal (seen x) (seen y) (part_of_of a.0 field)
 
   pub dev_addr_fixed : Shows_one (dev-addr.clauses 𝓛 mem run)

@@ -9,9 +9,8 @@ use native.Mathlib.Omega.{arith}
 use lib.Dec.{eqb, ltb}
 use lib.ListN.{length}
 use borrow.Author.Tests.{eqb-true, eqb-false, eq-eqb, ne_eqb, ltb-true, lt-ltb}
-use Rattle.base.specs.Bytes.{pick, at}
-use Rattle.frame.specs.Refusals.{refused, not_refused}
-use Rattle.frame.specs.declared.refusals.Refusal.{Refusal}
+use Rattle.base.specs.Bytes.{pick}
+use Rattle.frame.specs.Refusals.{refused}
 use Rattle.frame.specs.declared.parser.FPort.{FPort}
 use Rattle.frame.specs.declared.parser.FPort.TheVariants.{Absent, Port}
 use Rattle.frame_build.specs.DataBuilding.{both, either, is_zero, is_absent, data_length, data_refusal_of}
