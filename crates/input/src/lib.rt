@@ -1,7 +1,7 @@
 // What programs share that read frames from standard input: an input of any length, of which the start is kept, and records.
 #![tactic(auto)]
 
-ghost use Rattle.std.specs.Prelude.{◌≤◌, IfOk};
+ghost use Rattle.std.specs.Prelude.{◌≡◌, ◌≤◌, IfOk, length};
 ghost use Rattle.std.specs.Counts.{IsPrefixLen};
 
 use std::io;
@@ -17,10 +17,11 @@ pub struct Input {
     pub count: usize,
 }
 
-// Reads until the room is full or the input ends, and answers how many bytes it put at the start of the room. After an error
-// the bytes that came before it are read, and stand there.
+// Reads until the room is full or the input ends, and answers how many bytes it put at the start of the room. Every error is the
+// reader's: the bytes that came before it are read, and stand there.
 pub fn read_full<R: Read>(reader: &mut R, room: &mut [u8]) -> io::Result<usize>
-    ensures { IfOk result (λ n. IsPrefixLen n room.new) }
+    ensures ok { IfOk result (λ n. IsPrefixLen n room.new) }
+    ensures room_kept { length room.new ≡ length room.old }
 {
     let mut done = 0;
     while done < room.len() {
@@ -47,10 +48,11 @@ fn whole_length<R: Read>(reader: &mut R, start: usize, room: &mut [u8]) -> io::R
     Ok(count)
 }
 
-// Reads the input to its end. Its start stands in `room`, if all of it is shorter than that. After an error part of the input is
-// read, and `room` holds some of it.
+// Reads the input to its end. Its start stands in `room`, if all of it is shorter than that. Every error is the reader's: part of
+// the input is read then, and `room` holds some of it.
 pub fn read_input<R: Read>(reader: &mut R, room: &mut [u8]) -> io::Result<Input>
-    ensures { IfOk result (λ input. IsPrefixLen input.start room.new) }
+    ensures ok { IfOk result (λ input. IsPrefixLen input.start room.new) }
+    ensures room_kept { length room.new ≡ length room.old }
 {
     let start = read_full(reader, room)?;
     let count = whole_length(reader, start, room)?;
