@@ -1,5 +1,5 @@
--- The promise of each call that shows a part of a slice fixes the place in memory and the bytes of what it shows, and that of
--- `View::of` the view. What no program can see, the ghost name of a reference, it leaves open.
+-- The promise of each call that shows a part of a slice fixes the place in memory and the bytes of what it shows, which is all of
+-- what a `&` is, and that of `View::of` the view.
 -- Assumes nothing.
 use mathlib.Core.Path.{◌≡◌, sym, ◌∙◌}
 use mathlib.Core.List.{List}
