@@ -91,7 +91,7 @@ def names_of(files):
         for part in word.split("-"):
             if is_camel(part):
                 turned = snake(part)
-                new[part] = turned + "_of" if turned in functions else turned
+                new[part] = turned + "_of" if turned in functions and not turned.endswith("_of") else turned
     parts = {new.get(d, d) for d in definitions}
     taken = (words - new.keys()) | set(new.values())
     for word in sorted(declared):

@@ -26,10 +26,11 @@ fn put_request<W: Write>(line: &mut W, fields: JoinRequestFields) -> io::Result<
 }
 
 fn put_control<W: Write>(line: &mut W, fctrl: u8, uplink: bool) -> io::Result<()> {
-    put_flag(line, FCtrl::new(fctrl, uplink).adr())?;
-    put_flag(line, FCtrl::new(fctrl, uplink).adr_ack_req())?;
-    put_flag(line, FCtrl::new(fctrl, uplink).ack())?;
-    put_flag(line, FCtrl::new(fctrl, uplink).f_pending())
+    let control = FCtrl::new(fctrl, uplink);
+    put_flag(line, control.adr())?;
+    put_flag(line, control.adr_ack_req())?;
+    put_flag(line, control.ack())?;
+    put_flag(line, control.f_pending())
 }
 
 // FOpts, port and payload.
