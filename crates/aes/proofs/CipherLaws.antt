@@ -1,15 +1,15 @@
 -- What a caller may know of the two ciphers: their lengths, that they give bytes, and that each undoes the other under
 -- any schedule, by induction over the rounds.
 -- Assumes nothing.
-use mathlib.Core.Path.{_≡_, refl, ap, _∙_}
+use mathlib.Core.Path.{◌≡◌, refl, ap, ◌∙◌}
 use mathlib.Core.List.{List}
 use Prim.Native.Nat.{ℕ, zero, suc}
 use lib.ListN.{length}
-use Rattle·base.specs.Bytes.{AreBytes}
-use Rattle·aes·specs.specs.Fips197.{subBytes, shiftRows, mixColumns, addRoundKey, round, rounds, cipher}
-use Rattle·aes·specs.specs.Fips197.{invSubBytes, invShiftRows, invMixColumns, invRound, invRounds, invCipher}
-use Rattle·aes·proofs.proofs.Undone.{Block}
-use Rattle·aes·proofs.proofs.Undone as steps
+use Rattle.base.specs.Bytes.{AreBytes}
+use Rattle.aes.specs.Fips197.{subBytes, shiftRows, mixColumns, addRoundKey, round, rounds, cipher}
+use Rattle.aes.specs.Fips197.{invSubBytes, invShiftRows, invMixColumns, invRound, invRounds, invCipher}
+use Rattle.aes.proofs.Undone.{Block}
+use Rattle.aes.proofs.Undone as steps
 
 -- ---- lengths of the ciphers
 
@@ -25,7 +25,7 @@ invCipher-long w s = refl
 
 round-block : (w : List ℕ) (r : ℕ) (s : List ℕ) → AreBytes w → Block (round w r s)
 unfolding round
-round-block w r s hw = steps.addRoundKey-block w r _ hw (steps.mixColumns-block _ .byte)
+round-block w r s hw = steps.addRoundKey-block w r _ hw (steps.mixColumns-block _).byte
 
 invRound-block : (w : List ℕ) (r : ℕ) (s : List ℕ) → Block (invRound w r s)
 unfolding invRound
@@ -36,7 +36,7 @@ abbrev shifted : List ℕ → List ℕ
 shifted s = shiftRows (subBytes s)
 
 shifted-block : (s : List ℕ) → Block (shifted s)
-shifted-block s = steps.shiftRows-block (subBytes s) (steps.subBytes-block s .byte)
+shifted-block s = steps.shiftRows-block (subBytes s) (steps.subBytes-block s).byte
 
 -- and both undone, which each round of the inverse begins with
 abbrev unshifted : List ℕ → List ℕ
@@ -44,7 +44,7 @@ unshifted s = invSubBytes (invShiftRows s)
 
 pub cipher-byte : (w s : List ℕ) → AreBytes w → AreBytes s → AreBytes (cipher w s)
 unfolding cipher
-cipher-byte w s hw hs = steps.addRoundKey-block w 10 _ hw (shifted-block _ .byte) .byte
+cipher-byte w s hw hs = (steps.addRoundKey-block w 10 _ hw (shifted-block _).byte).byte
 
 -- ---- each undoes the other
 
@@ -55,7 +55,7 @@ unshifted-shifted s h =
 
 shifted-unshifted : (s : List ℕ) → Block s → shifted (unshifted s) ≡ s
 shifted-unshifted s h =
-    ap shiftRows (steps.subBytes-invSubBytes (invShiftRows s) (steps.invShiftRows-block s (h .byte)))
+    ap shiftRows (steps.subBytes-invSubBytes (invShiftRows s) (steps.invShiftRows-block s h.byte))
     ∙ steps.shiftRows-invShiftRows s h
 
 -- a round of the inverse takes the state inside a round to the state inside the one before
@@ -88,7 +88,7 @@ round-invRound : (w : List ℕ) (r : ℕ) (s : List ℕ) → AreBytes w → Bloc
 unfolding invRound
 round-invRound w r s hw h =
     let inner : List ℕ = unshifted s in
-    let keyed : Block (addRoundKey w r inner) = steps.addRoundKey-block w r inner hw (steps.invSubBytes-block _ .byte) in
+    let keyed : Block (addRoundKey w r inner) = steps.addRoundKey-block w r inner hw (steps.invSubBytes-block _).byte in
     ap (λ (t : List ℕ). shifted (addRoundKey w r t)) (steps.mixColumns-invMixColumns (addRoundKey w r inner) keyed)
     ∙ ap shifted (steps.addRoundKey-twice w r inner (steps.invSubBytes-block _))
     ∙ shifted-unshifted s h

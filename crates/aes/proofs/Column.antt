@@ -1,14 +1,14 @@
 -- A loop that fills a state a column a turn: after column q it holds 4 (q + 1) bytes by their rule. A column's four
 -- bytes are looked at with their places written out, where the rule computes.
 -- Assumes nothing.
-use mathlib.Core.Path.{_≡_}
+use mathlib.Core.Path.{◌≡◌}
 use mathlib.Core.List.{List}
-use Prim.Native.Nat.{ℕ, zero, suc, _+_, _*_, _<_}
+use Prim.Native.Nat.{ℕ, zero, suc, ◌+◌, ◌*◌, ◌<◌}
 use native.Mathlib.Omega.{arith}
 use lib.ListN.{set}
-use Rattle·base.specs.Bytes.{at}
-use Rattle·base.proofs.Filling.{Filling, step}
-use Rattle·aes·specs.specs.Fips197.{mixedAt}
+use Rattle.base.specs.Bytes.{at}
+use Rattle.base.proofs.Filling.{Filling, step}
+use Rattle.aes.specs.Fips197.{mixedAt}
 
 -- four bytes more
 four : {g : ℕ → ℕ} {r : List ℕ} {i x y z v : ℕ} → Filling 16 g r i → i + 3 < 16

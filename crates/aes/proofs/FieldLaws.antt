@@ -1,26 +1,26 @@
 -- The field's product is linear in its second factor, for each bit of it counts by itself; and what product, inverse and
 -- affine map give of bytes is a byte.
 -- Assumes nothing.
-use mathlib.Core.Path.{_≡_, refl, sym, ap, ap₂, _∙_}
+use mathlib.Core.Path.{◌≡◌, refl, sym, ap, ap₂, ◌∙◌}
 use mathlib.Core.Bool.{Bool, true, false}
-use Prim.Native.Nat.{ℕ, zero, suc, _/_, _%_, _<_}
+use Prim.Native.Nat.{ℕ, zero, suc, ◌/◌, ◌%◌, ◌<◌}
 use native.Mathlib.Nat.{mod-lt}
 use native.Mathlib.Omega.{arith}
 use lib.Dec.{eqb}
-use lib.Bits.{xor-self, xor-zero-l, xor-zero-r, xor-mod, xor-shr}
-use Rattle·base.specs.Bytes.{pick, _⊕_}
-use Rattle·base.proofs.Xor.{xor-byte, xor-middle}
-use Rattle·base.proofs.Tested.{bounded}
-use Rattle·aes·specs.specs.Field.{xtime, mulBits, mul, squares, inverse, fromBits, affineBit, affine, invAffineBit, invAffine, sub, invSub}
+use lib.Bits.{xor_self, xor_zero_l, xor_zero_r, xor_mod, xor_shr}
+use Rattle.base.specs.Bytes.{pick, ◌⊕◌}
+use Rattle.base.proofs.Xor.{xor-byte, xor-middle}
+use Rattle.base.proofs.Tested.{bounded}
+use Rattle.aes.specs.Field.{xtime, mulBits, mul, squares, inverse, fromBits, affineBit, affine, invAffineBit, invAffine, sub, invSub}
 
 -- ---- the product is linear
 
 -- a binary digit of a sum takes a as often as the two digits do
 picks-add : (a x y : ℕ) → x < 2 → y < 2 → pick (eqb (x ⊕ y) 1) a 0 ≡ pick (eqb x 1) a 0 ⊕ pick (eqb y 1) a 0
 picks-add a zero zero hx hy = refl
-picks-add a zero (suc zero) hx hy = sym (xor-zero-l a)
-picks-add a (suc zero) zero hx hy = sym (xor-zero-r a)
-picks-add a (suc zero) (suc zero) hx hy = sym (xor-self a)
+picks-add a zero (suc zero) hx hy = sym (xor_zero_l a)
+picks-add a (suc zero) zero hx hy = sym (xor_zero_r a)
+picks-add a (suc zero) (suc zero) hx hy = sym (xor_self a)
 picks-add a zero (suc (suc y)) hx hy = omega arith
 picks-add a (suc zero) (suc (suc y)) hx hy = omega arith
 picks-add a (suc (suc x)) y hx hy = omega arith
@@ -33,8 +33,8 @@ unfolding mulBits
 mulBits-add zero a b c = refl
 mulBits-add (suc n) a b c =
     ap₂ (λ (p q : ℕ). p ⊕ q)
-    (ap (λ (d : ℕ). pick (eqb d 1) a 0) (xor-mod b c 1) ∙ picks-add a (b % 2) (c % 2) (odd b) (odd c))
-    (ap (λ (h : ℕ). mulBits n (xtime a) h) (xor-shr b c 1) ∙ mulBits-add n (xtime a) (b / 2) (c / 2))
+    (ap (λ (d : ℕ). pick (eqb d 1) a 0) (xor_mod b c 1) ∙ picks-add a (b % 2) (c % 2) (odd b) (odd c))
+    (ap (λ (h : ℕ). mulBits n (xtime a) h) (xor_shr b c 1) ∙ mulBits-add n (xtime a) (b / 2) (c / 2))
     ∙ xor-middle (pick (eqb (b % 2) 1) a 0) (pick (eqb (c % 2) 1) a 0) (mulBits n (xtime a) (b / 2)) (mulBits n (xtime a) (c / 2))
 
 pub mul-add : (a b c : ℕ) → mul a (b ⊕ c) ≡ mul a b ⊕ mul a c

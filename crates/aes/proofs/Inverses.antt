@@ -1,15 +1,15 @@
 -- Inverse and affine map are undone as they should be, by a test at each byte. To compute an inverse takes fourteen
 -- products, so the 256 are computed in one test against a list of them, and every other test looks them up there.
 -- Assumes nothing.
-use mathlib.Core.Path.{_≡_, refl, sym, ap, _∙_}
-use mathlib.Core.List.{List, [], _∷_}
-use Prim.Native.Nat.{ℕ, zero, suc, _<_}
-use native.Mathlib.Nat.{not-suc-le-zero, le-of-suc-le-suc}
-use Rattle·base.specs.Bytes.{tab, at}
-use Rattle·base.proofs.Tab.{at-tab}
-use Rattle·base.proofs.Tested.{agree}
-use Rattle·aes·specs.specs.Field.{xtime, mulBits, mul, squares, inverse, fromBits, affine, invAffine, sub, invSub}
-use Rattle·aes·proofs.proofs.FieldLaws.{inverse-byte, invAffine-byte}
+use mathlib.Core.Path.{◌≡◌, refl, sym, ap, ◌∙◌}
+use mathlib.Core.List.{List, [], ◌∷◌}
+use Prim.Native.Nat.{ℕ, zero, suc, ◌<◌}
+use native.Mathlib.Nat.{not-suc-le-zero, le_of_suc-le-suc}
+use Rattle.base.specs.Bytes.{tab, at}
+use Rattle.base.proofs.Tab.{at-tab}
+use Rattle.base.proofs.Tested.{agree}
+use Rattle.aes.specs.Field.{xtime, mulBits, mul, squares, inverse, fromBits, affine, invAffine, sub, invSub}
+use Rattle.aes.proofs.FieldLaws.{inverse-byte, invAffine-byte}
 
 -- ---- the inverses
 
@@ -33,7 +33,7 @@ unfolding xtime mulBits mul
 inverts zero h k = absurd (not-suc-le-zero h)
 inverts (suc b) h k =
     ap (mul (suc b)) (inverse-listed (suc b) k)
-    ∙ agree 255 (λ n. mul (suc n) (at inverses (suc n))) (λ n. 1) tt b (le-of-suc-le-suc k)
+    ∙ agree 255 (λ n. mul (suc n) (at inverses (suc n))) (λ n. 1) tt b (le_of_suc-le-suc k)
 
 -- and 0 goes to 0: 5.1.1
 pub inverse-zero : inverse 0 ≡ 0

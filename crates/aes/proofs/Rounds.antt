@@ -1,12 +1,12 @@
 -- One round more, as the code counts: up for the cipher, down for its inverse.
 -- Assumes nothing.
-use mathlib.Core.Path.{_≡_, sym, ap, _∙_}
+use mathlib.Core.Path.{◌≡◌, sym, ap, ◌∙◌}
 use mathlib.Core.List.{List}
-use Prim.Native.Nat.{ℕ, zero, suc, _+_, _-_, _<_}
+use Prim.Native.Nat.{ℕ, zero, suc, ◌+◌, ◌-◌, ◌<◌}
 use native.Mathlib.Nat.{not-suc-le-zero}
 use native.Mathlib.Numerals.{add-one}
 use native.Mathlib.Omega.{arith}
-use Rattle·aes·specs.specs.Fips197.{round, rounds, invRound, invRounds}
+use Rattle.aes.specs.Fips197.{round, rounds, invRound, invRounds}
 
 pub round-more : (w : List ℕ) (n : ℕ) (s : List ℕ) → round w (n + 1) (rounds w n s) ≡ rounds w (n + 1) s
 unfolding rounds

@@ -1,22 +1,22 @@
 -- A loop that writes the schedule a word a turn: the bytes written so far are the words so far, and the next word is
 -- made of two of them, by the code's two cases.
 -- Assumes nothing.
-use mathlib.Core.Path.{_≡_, refl, sym, ap, ap₂, _∙_}
+use mathlib.Core.Path.{◌≡◌, refl, sym, ap, ap₂, ◌∙◌}
 use mathlib.Core.Bool.{Bool, true, false}
-use mathlib.Core.List.{List, [], _∷_, _++_}
-use Prim.Native.Nat.{ℕ, zero, suc, _+_, _-_, _*_, _/_, _%_, _<_, _≤_}
+use mathlib.Core.List.{List, [], ◌∷◌, ◌++◌}
+use Prim.Native.Nat.{ℕ, zero, suc, ◌+◌, ◌-◌, ◌*◌, ◌/◌, ◌%◌, ◌<◌, ◌≤◌}
 use native.Mathlib.Numerals.{add-one}
 use native.Mathlib.Omega.{arith}
-use borrow.Author.Tests.{eq-eqb, ne-eqb}
-use lib.Bits.{xor-zero-r}
+use borrow.Author.Tests.{eq-eqb, ne_eqb}
+use lib.Bits.{xor_zero_r}
 use lib.Dec.{eqb}
 use lib.ListN.{length, take, drop, set, length-append}
-use lib.Seq.{sets, sets-eq, length-sets, take-at, getD-take, length-take-le, take-all}
-use Rattle·base.specs.Bytes.{pick, tab, at, _⊕_}
-use Rattle·base.proofs.Tab.{tab-at, tab-ext}
-use Rattle·base.proofs.Tested.{agree}
-use Rattle·aes·specs.specs.Field.{xtime, sub}
-use Rattle·aes·specs.specs.KeyExpansion.{word, xorWord, rotWord, subWord, powerOfX, rcon, temp, nextWord, withNext, words, keyExpansion}
+use lib.Seq.{sets, sets-eq, length-sets, take_at, get_or-take, length-take-le, take_all}
+use Rattle.base.specs.Bytes.{pick, tab, at, ◌⊕◌}
+use Rattle.base.proofs.Tab.{tab-at, tab-ext}
+use Rattle.base.proofs.Tested.{agree}
+use Rattle.aes.specs.Field.{xtime, sub}
+use Rattle.aes.specs.KeyExpansion.{word, xorWord, rotWord, subWord, powerOfX, rcon, temp, nextWord, with_next, words, keyExpansion}
 
 -- ---- the next word
 
@@ -28,7 +28,7 @@ rcons-right : (k : ℕ) → k < 10 → at rcons k ≡ powerOfX k
 unfolding xtime powerOfX
 rcons-right = agree 10 (at rcons) powerOfX tt
 
-same-four : (a b c d p q r s : ℕ) → a ≡ p → b ≡ q → c ≡ r → d ≡ s → _≡_ {A = List ℕ} (a ∷ b ∷ c ∷ d ∷ []) (p ∷ q ∷ r ∷ s ∷ [])
+same-four : (a b c d p q r s : ℕ) → a ≡ p → b ≡ q → c ≡ r → d ≡ s → ◌≡◌ {A = List ℕ} (a ∷ b ∷ c ∷ d ∷ []) (p ∷ q ∷ r ∷ s ∷ [])
 same-four a b c d p q r s ha hb hc hd = cc
 
 -- every fourth word
@@ -41,9 +41,9 @@ temp-turned q n k e ea eb ec ed =
     let which : n / 4 ≡ i / 4 - 1 = omega arith in
     same-four _ _ _ _ _ _ _ _
     (ap₂ (λ (x y : ℕ). x ⊕ y) ea (rcons-right (n / 4) (omega arith) ∙ ap powerOfX which))
-    (eb ∙ sym (xor-zero-r (sub (at q 2))))
-    (ec ∙ sym (xor-zero-r (sub (at q 3))))
-    (ed ∙ sym (xor-zero-r (sub (at q 0))))
+    (eb ∙ sym (xor_zero_r (sub (at q 2))))
+    (ec ∙ sym (xor_zero_r (sub (at q 3))))
+    (ed ∙ sym (xor_zero_r (sub (at q 0))))
     ∙ ap (λ (t : Bool). pick t (xorWord (subWord (rotWord q)) (rcon (i / 4))) q) (sym turn)
 
 -- the others
@@ -51,7 +51,7 @@ pub temp-kept : (q : List ℕ) (n : ℕ) → (n % 4 ≡ 0 → ⊥) → q ≡ tem
 temp-kept q n h =
     let i : ℕ = n + 4 in
     let same : i % 4 ≡ n % 4 = omega arith in
-    let stay : eqb (i % 4) 0 ≡ false = ne-eqb (i % 4) 0 (λ z. h (sym same ∙ z)) in
+    let stay : eqb (i % 4) 0 ≡ false = ne_eqb (i % 4) 0 (λ z. h (sym same ∙ z)) in
     ap (λ (t : Bool). pick t (xorWord (subWord (rotWord q)) (rcon (i / 4))) q) (sym stay)
 
 -- ---- the words so far
@@ -60,7 +60,7 @@ temp-kept q n h =
 pub record Growing (key w : List ℕ) (n : ℕ) : Type 0 where
   pub upto : n ≤ 40
   pub long : length w ≡ 176
-  pub so-far : take (16 + 4 * n) w ≡ words n key
+  pub so_far : take (16 + 4 * n) w ≡ words n key
 
 -- four stores, one after the other
 stores : (w : List ℕ) (m x y z v : ℕ) → set (set (set (set w m x) (m + 1) y) (m + 2) z) (m + 3) v ≡ sets w m (x ∷ y ∷ z ∷ v ∷ [])
@@ -77,15 +77,15 @@ take-stores : (w t : List ℕ) (m : ℕ) → m + length t ≤ length w → take 
 take-stores w t m h =
     let head : length (take m w) ≡ m = length-take-le m w (omega arith) in
     ap (take (m + length t)) (sets-eq t w m h)
-    ∙ take-at (take m w ++ t) (drop (m + length t) w) (m + length t) (length-append (take m w) t ∙ (omega (arith, head)))
+    ∙ take_at (take m w ++ t) (drop (m + length t) w) (m + length t) (length-append (take m w) t ∙ (omega (arith, head)))
 
 -- a word among the first m bytes
 word-take : (w : List ℕ) (m i : ℕ) → 4 * i + 4 ≤ m → word (take m w) i ≡ word w i
-word-take w m i h = tab-ext 4 (λ j. at (take m w) (4 * i + j)) (λ j. at w (4 * i + j)) (λ j k. getD-take m w (4 * i + j) 0 (omega arith))
+word-take w m i h = tab-ext 4 (λ j. at (take m w) (4 * i + j)) (λ j. at w (4 * i + j)) (λ j k. get_or-take m w (4 * i + j) 0 (omega arith))
 
 -- a word, as the code reads it
-pub word-read : (w : List ℕ) (n : ℕ) → at w (4 * n) ∷ at w (4 * n + 1) ∷ at w (4 * n + 2) ∷ at w (4 * n + 3) ∷ [] ≡ word w n
-word-read w n =
+pub word_read : (w : List ℕ) (n : ℕ) → at w (4 * n) ∷ at w (4 * n + 1) ∷ at w (4 * n + 2) ∷ at w (4 * n + 3) ∷ [] ≡ word w n
+word_read w n =
     let zeroth : 4 * n ≡ 4 * n + 0 = omega arith in
     same-four _ _ _ _ _ _ _ _ (ap (at w) zeroth) refl refl refl
 
@@ -109,41 +109,41 @@ more {key} {w} {n} t g k e =
     let next : t ≡ nextWord (word (words n key) (n + 4 - 4)) (word (words n key) (n + 4 - 1)) (n + 4) =
     e
     ∙ ap₂ (λ (p q : List ℕ). nextWord p q (n + 4))
-    (sym (word-take w m n (omega arith)) ∙ ap₂ word (g .so-far) (sym low))
-    (sym (word-take w m (n + 3) (omega arith)) ∙ ap₂ word (g .so-far) (sym high)) in
+    (sym (word-take w m n (omega arith)) ∙ ap₂ word g.so_far (sym low))
+    (sym (word-take w m (n + 3) (omega arith)) ∙ ap₂ word g.so_far (sym high)) in
     record {
       upto = omega arith;
-      long = ap length same ∙ length-sets w m (at t 0 ∷ at t 1 ∷ at t 2 ∷ at t 3 ∷ []) ∙ g .long;
-      so-far =
+      long = ap length same ∙ length-sets w m (at t 0 ∷ at t 1 ∷ at t 2 ∷ at t 3 ∷ []) ∙ g.long;
+      so_far =
           ap₂ take end same
-          ∙ take-stores w (at t 0 ∷ at t 1 ∷ at t 2 ∷ at t 3 ∷ []) m (omega (arith, g .long))
-          ∙ ap₂ (λ (p q : List ℕ). p ++ q) (g .so-far) (sym (tab-at t 4 l) ∙ next)
+          ∙ take-stores w (at t 0 ∷ at t 1 ∷ at t 2 ∷ at t 3 ∷ []) m (omega (arith, g.long))
+          ∙ ap₂ (λ (p q : List ℕ). p ++ q) g.so_far (sym (tab-at t 4 l) ∙ next)
           ∙ ap (λ (i : ℕ). words i key) (sym (add-one n));
     }
 
 pub grown : {key w : List ℕ} {n : ℕ} → Growing key w n → 40 ≤ n → w ≡ keyExpansion key
 unfolding keyExpansion
 grown {key} {w} {n} g k =
-    let all : n ≡ 40 = omega (arith, g .upto) in
-    sym (take-all (16 + 4 * n) w (omega (arith, g .long))) ∙ g .so-far ∙ ap (λ (i : ℕ). words i key) all
+    let all : n ≡ 40 = omega (arith, g.upto) in
+    sym (take_all (16 + 4 * n) w (omega (arith, g.long))) ∙ g.so_far ∙ ap (λ (i : ℕ). words i key) all
 
 -- ---- the first words
 
 first-words : (w : List ℕ) → length w ≡ 176 → take 16 w ≡ tab 16 (at w)
 first-words w l =
     tab-at (take 16 w) 16 (length-take-le 16 w (omega (arith, l)))
-    ∙ tab-ext 16 (at (take 16 w)) (at w) (λ i k. getD-take 16 w i 0 k)
+    ∙ tab-ext 16 (at (take 16 w)) (at w) (λ i k. get_or-take 16 w i 0 k)
 
 -- what holds the key in its first words may stand for it
 pub started : (w : List ℕ) → length w ≡ 176 → Growing w w 0
 unfolding words
-started w l = record { upto = omega arith; long = l; so-far = first-words w l }
+started w l = record { upto = omega arith; long = l; so_far = first-words w l }
 
-words-same : (n : ℕ) (k w : List ℕ) → tab 16 (at k) ≡ tab 16 (at w) → words n k ≡ words n w
+words_same : (n : ℕ) (k w : List ℕ) → tab 16 (at k) ≡ tab 16 (at w) → words n k ≡ words n w
 unfolding words
-words-same zero k w e = e
-words-same (suc n) k w e = ap (λ (l : List ℕ). withNext l (n + 4)) (words-same n k w e)
+words_same zero k w e = e
+words_same (suc n) k w e = ap (λ (l : List ℕ). with_next l (n + 4)) (words_same n k w e)
 
 pub same-schedule : (key w : List ℕ) → length w ≡ 176 → take 16 w ≡ tab 16 (at key) → keyExpansion w ≡ keyExpansion key
 unfolding keyExpansion
-same-schedule key w l e = words-same 40 w key (sym (first-words w l) ∙ e)
+same-schedule key w l e = words_same 40 w key (sym (first-words w l) ∙ e)

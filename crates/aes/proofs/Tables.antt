@@ -2,13 +2,13 @@
 -- table. The tables are lists by their rules, so an entry is what its rule gives. With its inverses looked up a rule is
 -- quick to compute, and so is the test of a whole table against it.
 -- Assumes nothing.
-use mathlib.Core.Path.{_≡_, sym, ap, _∙_}
-use Prim.Native.Nat.{ℕ, _<_}
-use Rattle·base.specs.Bytes.{tab, at}
-use Rattle·base.proofs.Tab.{at-tab, tab-ext}
-use Rattle·aes·specs.specs.Field.{inverse, affine, invAffine, sub, invSub, sBox, invSBox}
-use Rattle·aes·proofs.proofs.FieldLaws.{sub-byte, invAffine-byte}
-use Rattle·aes·proofs.proofs.Inverses.{inverses, inverse-listed, invSub-sub}
+use mathlib.Core.Path.{◌≡◌, sym, ap, ◌∙◌}
+use Prim.Native.Nat.{ℕ, ◌<◌}
+use Rattle.base.specs.Bytes.{tab, at}
+use Rattle.base.proofs.Tab.{at-tab, tab-ext}
+use Rattle.aes.specs.Field.{inverse, affine, invAffine, sub, invSub, sBox, invSBox}
+use Rattle.aes.proofs.FieldLaws.{sub-byte, invAffine-byte}
+use Rattle.aes.proofs.Inverses.{inverses, inverse-listed, invSub-sub}
 
 pub sBox-entry : (x : ℕ) → x < 256 → at sBox x ≡ affine (inverse x)
 unfolding sBox sub

@@ -2,10 +2,8 @@
 -- A byte stands for a polynomial of degree below 8 whose coefficients are its bits; the sum of two bytes is their
 -- exclusive or (4.1).
 -- Assumes nothing.
-use mathlib.Core.List.{List}
-use Prim.Native.Nat.{ℕ, zero, suc, _+_, _*_, _/_, _%_, _^_}
-use lib.Dec.{ltb, eqb}
-use Rattle·base.specs.Bytes.{pick, tab, _⊕_}
+use Rattle.std.specs.Prelude.{List, ℕ, zero, suc, ◌+◌, ◌*◌, ◌/◌, ◌%◌, ◌^◌, ltb, eqb}
+use Rattle.base.specs.Bytes.{pick, tab, ◌⊕◌}
 
 -- 4.2, XTIMES: b times x, modulo x^8 + x^4 + x^3 + x + 1
 unfoldable pub xtime : ℕ → ℕ

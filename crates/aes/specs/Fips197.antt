@@ -2,10 +2,9 @@
 -- byte in row r and column c stands at r + 4 c (3.4); a schedule is the bytes of its 44 words. Key expansion (5.2) is in
 -- KeyExpansion.antt.
 -- Assumes nothing.
-use mathlib.Core.List.{List}
-use Prim.Native.Nat.{ℕ, zero, suc, _+_, _-_, _*_, _/_, _%_}
-use Rattle·base.specs.Bytes.{tab, at, _⊕_}
-use Rattle·aes·specs.specs.Field.{mul, sub, invSub}
+use Rattle.std.specs.Prelude.{List, ℕ, zero, suc, ◌+◌, ◌-◌, ◌*◌, ◌/◌, ◌%◌}
+use Rattle.base.specs.Bytes.{tab, at, ◌⊕◌}
+use Rattle.aes.specs.Field.{mul, sub, invSub}
 
 -- ---- 5.1: the four steps of a round
 

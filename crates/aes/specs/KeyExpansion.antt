@@ -1,11 +1,9 @@
 -- Key expansion of AES-128, from FIPS 197, 5.2, over lists of bytes. A word is four bytes; the schedule is the bytes of its
 -- 44 words.
 -- Assumes nothing.
-use mathlib.Core.List.{List, [], _∷_, _++_}
-use Prim.Native.Nat.{ℕ, zero, suc, _+_, _-_, _*_, _/_, _%_}
-use lib.Dec.{eqb}
-use Rattle·base.specs.Bytes.{pick, tab, at, _⊕_}
-use Rattle·aes·specs.specs.Field.{xtime, sub}
+use Rattle.std.specs.Prelude.{List, [], ◌∷◌, ◌++◌, ℕ, zero, suc, ◌+◌, ◌-◌, ◌*◌, ◌/◌, ◌%◌, eqb}
+use Rattle.base.specs.Bytes.{pick, tab, at, ◌⊕◌}
+use Rattle.aes.specs.Field.{xtime, sub}
 
 -- word i of w
 abbrev pub word : List ℕ → ℕ → List ℕ
@@ -38,13 +36,13 @@ unfoldable pub nextWord : List ℕ → List ℕ → ℕ → List ℕ
 nextWord p q i = xorWord p (temp q i)
 
 -- the words before word i, and word i
-abbrev pub withNext : List ℕ → ℕ → List ℕ
-withNext w i = w ++ nextWord (word w (i - 4)) (word w (i - 1)) i
+abbrev pub with_next : List ℕ → ℕ → List ℕ
+with_next w i = w ++ nextWord (word w (i - 4)) (word w (i - 1)) i
 
 -- the words of the key, and n more
 unfoldable pub words : ℕ → List ℕ → List ℕ
 words zero key = tab 16 (at key)
-words (suc n) key = withNext (words n key) (n + 4)
+words (suc n) key = with_next (words n key) (n + 4)
 
 -- Algorithm 2
 unfoldable pub keyExpansion : List ℕ → List ℕ

@@ -1,18 +1,18 @@
 // MixColumns and its inverse, a column a turn.
-ghost use mathlib.Core.Path.{_≡_};
-ghost use Rattle·aes·specs.specs.Field.{mul};
-ghost use Rattle·aes·specs.specs.Fips197.{mixRow, invMixRow, mixColumns, invMixColumns};
+ghost use Rattle.std.specs.Prelude.{◌≡◌};
+ghost use Rattle.aes.specs.Field.{mul};
+ghost use Rattle.aes.specs.Fips197.{mixRow, invMixRow, mixColumns, invMixColumns};
 
 // 2 times b, in the field: where the top bit is shifted out, 0x1b is added.
 fn doubled(b: u8) -> u8
-    ensures { λ r. ⌜ r ≡ mul 2 b ⌝ }
+    ensures { result ≡ mul 2 b }
 {
     (b << 1) ^ ((b >> 7) * 0x1b)
 }
 
 // The first byte of a mixed column. 3 b is 2 b + b, so a and b are doubled together.
 fn mixed(a: u8, b: u8, c: u8, d: u8) -> u8
-    ensures { λ r. ⌜ r ≡ mixRow a b c d ⌝ }
+    ensures { result ≡ mixRow a b c d }
 {
     doubled(a ^ b) ^ (b ^ (c ^ d))
 }
@@ -20,7 +20,7 @@ fn mixed(a: u8, b: u8, c: u8, d: u8) -> u8
 // The first byte of a column unmixed. The inverse matrix is that of MixColumns times the one that adds 4 (a + c) to a
 // and c, and 4 (b + d) to b and d.
 fn unmixed(a: u8, b: u8, c: u8, d: u8) -> u8
-    ensures { λ r. ⌜ r ≡ invMixRow a b c d ⌝ }
+    ensures { result ≡ invMixRow a b c d }
 {
     let u = doubled(doubled(a ^ c));
     let v = doubled(doubled(b ^ d));
@@ -28,7 +28,7 @@ fn unmixed(a: u8, b: u8, c: u8, d: u8) -> u8
 }
 
 pub(crate) fn mix_columns(s: [u8; 16]) -> [u8; 16]
-    ensures { λ r. ⌜ r ≡ mixColumns s ⌝ }
+    ensures { result ≡ mixColumns s }
 {
     let mut r = [0u8; 16];
     let mut column = 0;
@@ -48,7 +48,7 @@ pub(crate) fn mix_columns(s: [u8; 16]) -> [u8; 16]
 }
 
 pub(crate) fn inv_mix_columns(s: [u8; 16]) -> [u8; 16]
-    ensures { λ r. ⌜ r ≡ invMixColumns s ⌝ }
+    ensures { result ≡ invMixColumns s }
 {
     let mut r = [0u8; 16];
     let mut column = 0;

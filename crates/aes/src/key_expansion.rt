@@ -1,26 +1,24 @@
 // Key expansion, by FIPS 197, 5.2: the schedule of a key.
-ghost use mathlib.Core.Path.{_≡_};
-ghost use Prim.Native.Nat.{_+_, _<_};
-ghost use lib.ListN.{length, take};
-ghost use Rattle·base.specs.Bytes.{tab, at};
-ghost use Rattle·aes·specs.specs.Field.{sub, sBox};
-ghost use Rattle·aes·specs.specs.KeyExpansion.{word, temp, nextWord, keyExpansion};
+ghost use Rattle.std.specs.Prelude.{◌≡◌, ◌+◌, ◌<◌, length, take};
+ghost use Rattle.base.specs.Bytes.{tab, at};
+ghost use Rattle.aes.specs.Field.{sub, sBox};
+ghost use Rattle.aes.specs.KeyExpansion.{word, temp, nextWord, keyExpansion};
 
 // The round constants, from round 1 on: x^0, x^1, ..
 const RCON: [u8; 10] = [0x01, 0x02, 0x04, 0x08, 0x10, 0x20, 0x40, 0x80, 0x1b, 0x36];
 
 // What the table holds at b.
 fn substituted(table: &[u8; 256], b: u8) -> u8
-    requires { ⌜ now table ≡ sBox ⌝ }
-    ensures { λ r. ⌜ r ≡ sub b ⌝ }
+    requires { table.now ≡ sBox }
+    ensures { result ≡ sub b }
 {
     table[b as usize]
 }
 
 // What is added to a word to give the word n + 4: the word q before it, every fourth time turned and substituted.
 fn added(table: &[u8; 256], q: [u8; 4], n: usize) -> [u8; 4]
-    requires { ⌜ (now table ≡ sBox) × (n < 40) ⌝ }
-    ensures { λ r. ⌜ r ≡ temp q (n + 4) ⌝ }
+    requires { (table.now ≡ sBox) × (n < 40) }
+    ensures { result ≡ temp q (n + 4) }
 {
     if n % 4 == 0 {
         let rcon = RCON;
@@ -37,8 +35,8 @@ fn added(table: &[u8; 256], q: [u8; 4], n: usize) -> [u8; 4]
 
 // The word i.
 fn word_at(w: &[u8; 176], i: usize) -> [u8; 4]
-    requires { ⌜ i < 44 ⌝ }
-    ensures { λ r. ⌜ r ≡ word (now (w .entry)) i ⌝ }
+    requires { i < 44 }
+    ensures { result ≡ word w.now i }
 {
     let m = 4 * i;
     [w[m], w[m + 1], w[m + 2], w[m + 3]]
@@ -46,8 +44,8 @@ fn word_at(w: &[u8; 176], i: usize) -> [u8; 4]
 
 // The word n + 4, of the words n and n + 3.
 fn next_word(table: &[u8; 256], w: &[u8; 176], n: usize) -> [u8; 4]
-    requires { ⌜ (now table ≡ sBox) × (n < 40) ⌝ }
-    ensures { λ r. ⌜ r ≡ nextWord (word (now (w .entry)) n) (word (now (w .entry)) (n + 3)) (n + 4) ⌝ }
+    requires { (table.now ≡ sBox) × (n < 40) }
+    ensures { result ≡ nextWord (word w.now n) (word w.now (n + 3)) (n + 4) }
 {
     let p = word_at(w, n);
     let t = added(table, word_at(w, n + 3), n);
@@ -56,7 +54,7 @@ fn next_word(table: &[u8; 256], w: &[u8; 176], n: usize) -> [u8; 4]
 
 // The key, with room for the words to come.
 fn begun(key: [u8; 16]) -> [u8; 176]
-    ensures { λ r. ⌜ (length r ≡ 176) × (take 16 r ≡ tab 16 (at key)) ⌝ }
+    ensures { (length result ≡ 176) × (take 16 result ≡ tab 16 (at key)) }
 {
     let mut w = [0u8; 176];
     let mut i = 0;
@@ -69,7 +67,7 @@ fn begun(key: [u8; 16]) -> [u8; 176]
 
 // The schedule of a key: the bytes of its 44 words.
 pub fn expand(key: [u8; 16]) -> [u8; 176]
-    ensures { λ r. ⌜ r ≡ keyExpansion key ⌝ }
+    ensures { result ≡ keyExpansion key }
 {
     let table = crate::field::substitution::table();
     let mut w = begun(key);

@@ -1,20 +1,20 @@
 -- One byte of an open frame changed: the chain values that are carried on from its block, and the MIC that is made of
 -- them, are those of the changed frame's own message.
 -- Assumes nothing.
-use mathlib.Core.Path.{_≡_, sym, ap, ap₂, _∙_}
-use mathlib.Core.List.{List, _++_}
-use Prim.Native.Nat.{ℕ, _+_, _-_, _*_, _/_, _%_, _≤_, _<_}
+use mathlib.Core.Path.{◌≡◌, sym, ap, ap₂, ◌∙◌}
+use mathlib.Core.List.{List, ◌++◌}
+use Prim.Native.Nat.{ℕ, ◌+◌, ◌-◌, ◌*◌, ◌/◌, ◌%◌, ◌≤◌, ◌<◌}
 use native.Mathlib.Omega.{arith}
 use lib.ListN.{length, take, drop, set, length-set}
 use lib.Seq.{sets, sets-eq, take-take, take-append-add, take-set-le, drop-set-lt, length-take-le}
-use Rattle·aes.specs.KeyExpansion.{keyExpansion}
-use Rattle·cmac.proofs.CmacLaws.{chain-same}
-use Rattle·frame_security.specs.Security.{helperBlock, message, dataMic, micBlock}
-use Rattle·frame_security.proofs.SecurityLaws.{helperBlock-long, helperBlock-same, dataMic-long}
-use Rattle·amend·specs.specs.Amending.{lastPlace, signedFrom, carried, resigned}
-use Rattle·amend·specs.specs.OpenFrame.{chainsOf}
-use Rattle·amend·proofs.proofs.Chains.{table-right, table-rest, carried-table, chainsOf-long, block-behind}
-use Rattle·amend·proofs.proofs.OpeningLaws.{signed-mic}
+use Rattle.aes.specs.KeyExpansion.{keyExpansion}
+use Rattle.cmac.proofs.CmacLaws.{chain_same}
+use Rattle.frame_security.specs.Security.{helperBlock, message, dataMic, micBlock}
+use Rattle.frame_security.proofs.SecurityLaws.{helperBlock-long, helperBlock-same, dataMic-long}
+use Rattle.amend.specs.Amending.{lastPlace, signedFrom, carried, resigned}
+use Rattle.amend.specs.OpenFrame.{chainsOf}
+use Rattle.amend.proofs.Chains.{table-right, table-rest, carried-table, chainsOf-long, block-behind}
+use Rattle.amend.proofs.OpeningLaws.{signed-mic}
 
 module _ (f : List ℕ) (counter n p e : ℕ) (start : 5 ≤ p) (inside : p < n) (top : n ≤ 251) (long : n ≤ length f) where
   covered-long : length (take n f) ≡ n
@@ -40,10 +40,10 @@ module _ (f : List ℕ) (counter n p e : ℕ) (start : 5 ≤ p) (inside : p < n)
   unfolding message micBlock
   blocks-same =
       let b = helperBlock 0x49 (take n f) counter (length (take n f) % 256) in
-      let b′ = helperBlock 0x49 (take n (set f p e)) counter (length (take n (set f p e)) % 256) in
+      let b' = helperBlock 0x49 (take n (set f p e)) counter (length (take n (set f p e)) % 256) in
       let place : length b + 16 * (p / 16) ≡ 16 * (p / 16 + 1) =
       omega (arith, helperBlock-long 0x49 (take n f) counter (length (take n f) % 256)) in
-      let place′ : length b′ + 16 * (p / 16) ≡ 16 * (p / 16 + 1) =
+      let place' : length b' + 16 * (p / 16) ≡ 16 * (p / 16 + 1) =
       omega (arith, helperBlock-long 0x49 (take n (set f p e)) counter (length (take n (set f p e)) % 256)) in
       let ahead : take (16 * (p / 16)) (take n f) ≡ take (16 * (p / 16)) (take n (set f p e)) =
       take-take (16 * (p / 16)) n f (omega arith)
@@ -52,8 +52,8 @@ module _ (f : List ℕ) (counter n p e : ℕ) (start : 5 ≤ p) (inside : p < n)
       ap (λ (k : ℕ). take k (b ++ take n f)) (sym place)
       ∙ take-append-add b (take n f) (16 * (p / 16))
       ∙ ap₂ (λ (s t : List ℕ). s ++ t) first-same ahead
-      ∙ sym (take-append-add b′ (take n (set f p e)) (16 * (p / 16)))
-      ∙ ap (λ (k : ℕ). take k (b′ ++ take n (set f p e))) place′
+      ∙ sym (take-append-add b' (take n (set f p e)) (16 * (p / 16)))
+      ∙ ap (λ (k : ℕ). take k (b' ++ take n (set f p e))) place'
 
   pub carried-message : (ks : List ℕ)
       → carried ks (set f p e) n p (chainsOf ks (message (take n f) counter) (lastPlace n))
@@ -61,14 +61,14 @@ module _ (f : List ℕ) (counter n p e : ℕ) (start : 5 ≤ p) (inside : p < n)
   unfolding message micBlock
   carried-message ks =
       let m = message (take n f) counter in
-      let m′ = message (take n (set f p e)) counter in
+      let m' = message (take n (set f p e)) counter in
       let last = lastPlace n in
-      let b′ = helperBlock 0x49 (take n (set f p e)) counter (length (take n (set f p e)) % 256) in
-      carried-table ks m′ last (set f p e) (chainsOf ks m last) (p / 16) (chainsOf-long ks m last) (omega arith) (omega arith)
-      (λ j l. table-right ks m last j (omega arith) (omega arith) ∙ chain-same ks m m′ (p / 16 + 1) blocks-same (j + 1) (omega arith))
+      let b' = helperBlock 0x49 (take n (set f p e)) counter (length (take n (set f p e)) % 256) in
+      carried-table ks m' last (set f p e) (chainsOf ks m last) (p / 16) (chainsOf-long ks m last) (omega arith) (omega arith)
+      (λ j l. table-right ks m last j (omega arith) (omega arith) ∙ chain_same ks m m' (p / 16 + 1) blocks-same (j + 1) (omega arith))
       (λ j l g. table-rest ks m last j l g)
       (λ j l g.
-      block-behind b′ (set f p e) n j
+      block-behind b' (set f p e) n j
       (helperBlock-long 0x49 (take n (set f p e)) counter (length (take n (set f p e)) % 256))
       (omega arith))
 

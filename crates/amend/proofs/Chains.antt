@@ -2,30 +2,30 @@
 -- it stay. So a whole table of chain values comes of carrying on, at opening and after a byte was changed alike, and
 -- the MIC that is made of the last of them is that of the whole message.
 -- Assumes nothing.
-use mathlib.Core.Path.{_≡_, refl, sym, ap, ap₂, _∙_, subst}
+use mathlib.Core.Path.{◌≡◌, refl, sym, ap, ap₂, ◌∙◌, subst}
 use mathlib.Core.Bool.{Bool}
-use mathlib.Core.List.{List, _++_}
-use Prim.Native.Nat.{ℕ, zero, suc, _+_, _-_, _*_, _/_, _%_, _≤_, _<_}
+use mathlib.Core.List.{List, ◌++◌}
+use Prim.Native.Nat.{ℕ, zero, suc, ◌+◌, ◌-◌, ◌*◌, ◌/◌, ◌%◌, ◌≤◌, ◌<◌}
 use native.Mathlib.Numerals.{add-one}
 use native.Mathlib.Omega.{arith}
 use lib.Dec.{leb}
-use lib.ListN.{length, take, drop, length-append, getD-replicate}
+use lib.ListN.{length, take, drop, length-append, get_or-replicate}
 use lib.Seq.{sets, length-sets, drop-append-add, length-take-le}
 use borrow.Author.Tests.{le-leb, lt-leb}
-use Rattle·base.specs.Bytes.{pick, at, part, xorL}
-use Rattle·base.proofs.Tab.{length-tab, at-tab, same-at}
-use Rattle·base.proofs.Cases.{by-order}
-use Rattle·base.proofs.Lent.{part-long}
-use Rattle·base.proofs.Parts.{part-take, at-part}
-use Rattle·aes.specs.Fips197.{cipher}
-use Rattle·aes.proofs.CipherLaws.{cipher-long}
-use Rattle·cmac.specs.Doubling.{constZero}
-use Rattle·cmac.specs.Rfc4493.{chain, tag}
-use Rattle·cmac.specs.Running.{resumed, absorbed, finished}
-use Rattle·cmac.proofs.CmacLaws.{chain-suc, chain-long, resume}
-use Rattle·amend·specs.specs.Amending.{lastPlace, chained, signedFrom}
-use Rattle·amend·specs.specs.OpenFrame.{chainsOf}
-use Rattle·amend·proofs.proofs.Stores.{part-before, part-after, part-stored, drop-take}
+use Rattle.base.specs.Bytes.{pick, at, part, xorL}
+use Rattle.base.proofs.Tab.{length-tab, at-tab, same_at}
+use Rattle.base.proofs.Cases.{by_order}
+use Rattle.base.proofs.Lent.{part-long}
+use Rattle.base.proofs.Parts.{part-take, at_part}
+use Rattle.aes.specs.Fips197.{cipher}
+use Rattle.aes.proofs.CipherLaws.{cipher-long}
+use Rattle.cmac.specs.Doubling.{constZero}
+use Rattle.cmac.specs.Rfc4493.{chain, tag}
+use Rattle.cmac.specs.Running.{resumed, absorbed, finished}
+use Rattle.cmac.proofs.CmacLaws.{chain-suc, chain-long, resume}
+use Rattle.amend.specs.Amending.{lastPlace, chained, signedFrom}
+use Rattle.amend.specs.OpenFrame.{chainsOf}
+use Rattle.amend.proofs.Stores.{part-before, part-after, part-stored, drop-take}
 
 -- place i holds the chain value of the message m ahead of the frame's block i
 abbrev pub Right : List ℕ → List ℕ → List ℕ → ℕ → Type 0
@@ -80,7 +80,7 @@ module _ (ks f : List ℕ) where
   chained-right m (suc k) i chains h r blocks j lo hi =
       let next = cipher ks (xorL (part (16 * i) 16 chains) (part (16 * i) 16 f)) in
       let stored = sets chains (16 * (i + 1)) next in
-      by-order j i
+      by_order j i
       (λ l.
       let here : i ≡ j = omega arith in
       chained-before (suc k) i chains j l ∙ subst (λ (n : ℕ). Right ks m chains n) here r)
@@ -124,19 +124,19 @@ module _ (ks m : List ℕ) (last : ℕ) where
 pub by-block : (s : List ℕ) (j : ℕ) → at s j ≡ at (part (16 * (j / 16)) 16 s) (j % 16)
 by-block s j =
     let whole : 16 * (j / 16) + j % 16 ≡ j = omega arith in
-    sym (at-part (16 * (j / 16)) 16 s (j % 16) (omega arith) ∙ ap (at s) whole)
+    sym (at_part (16 * (j / 16)) 16 s (j % 16) (omega arith) ∙ ap (at s) whole)
 
 module _ (ks m : List ℕ) (last : ℕ) where
   -- within the table each place is right
   pub table-right : (i : ℕ) → i < 16 → i ≤ last → Right ks m (chainsOf ks m last) i
   table-right i h l =
-      same-at 16 (part (16 * i) 16 (chainsOf ks m last)) (chain ks m (i + 1))
+      same_at 16 (part (16 * i) 16 (chainsOf ks m last)) (chain ks m (i + 1))
       (part-long (16 * i) 16 (chainsOf ks m last) (omega (arith, chainsOf-long ks m last)))
       (chain-long ks m (i + 1))
       (λ k b.
       let block : (16 * i + k) / 16 ≡ i = omega arith in
       let place : (16 * i + k) % 16 ≡ k = omega arith in
-      at-part (16 * i) 16 (chainsOf ks m last) k b
+      at_part (16 * i) 16 (chainsOf ks m last) k b
       ∙ chainsOf-at ks m last (16 * i + k) (omega arith)
       ∙ ap₂ (λ (n q : ℕ). pick (leb n last) (at (chain ks m (n + 1)) q) 0) block place
       ∙ ap (λ (t : Bool). pick t (at (chain ks m (i + 1)) k) 0) (le-leb i last l))
@@ -144,31 +144,31 @@ module _ (ks m : List ℕ) (last : ℕ) where
   -- and past the last one it has zeros
   pub table-rest : (i : ℕ) → i < 16 → last < i → part (16 * i) 16 (chainsOf ks m last) ≡ constZero
   table-rest i h l =
-      same-at 16 (part (16 * i) 16 (chainsOf ks m last)) constZero
+      same_at 16 (part (16 * i) 16 (chainsOf ks m last)) constZero
       (part-long (16 * i) 16 (chainsOf ks m last) (omega (arith, chainsOf-long ks m last)))
       refl
       (λ k b.
       let block : (16 * i + k) / 16 ≡ i = omega arith in
-      at-part (16 * i) 16 (chainsOf ks m last) k b
+      at_part (16 * i) 16 (chainsOf ks m last) k b
       ∙ chainsOf-at ks m last (16 * i + k) (omega arith)
       ∙ ap (λ (n : ℕ). pick (leb n last) (at (chain ks m (n + 1)) ((16 * i + k) % 16)) 0) block
       ∙ ap (λ (t : Bool). pick t (at (chain ks m (i + 1)) ((16 * i + k) % 16)) 0) (lt-leb i last l)
-      ∙ sym (getD-replicate 16 k 0 0 b))
+      ∙ sym (get_or-replicate 16 k 0 0 b))
 
   -- a string of 256 bytes that is right up to the last place and has zeros behind is the table
   pub table : (s : List ℕ) → length s ≡ 256 → ((i : ℕ) → i ≤ last → Right ks m s i)
       → ((i : ℕ) → i < 16 → last < i → part (16 * i) 16 s ≡ constZero) → s ≡ chainsOf ks m last
   table s long right rest =
-      same-at 256 s (chainsOf ks m last) long (chainsOf-long ks m last)
+      same_at 256 s (chainsOf ks m last) long (chainsOf-long ks m last)
       (λ j b.
       by-block s j
-      ∙ by-order (j / 16) last
+      ∙ by_order (j / 16) last
       (λ l.
       ap (λ (p : List ℕ). at p (j % 16)) (right (j / 16) l)
       ∙ ap (λ (t : Bool). pick t (at (chain ks m (j / 16 + 1)) (j % 16)) 0) (sym (le-leb (j / 16) last l)))
       (λ g.
       ap (λ (p : List ℕ). at p (j % 16)) (rest (j / 16) (omega arith) g)
-      ∙ getD-replicate 16 (j % 16) 0 0 (omega arith)
+      ∙ get_or-replicate 16 (j % 16) 0 0 (omega arith)
       ∙ ap (λ (t : Bool). pick t (at (chain ks m (j / 16 + 1)) (j % 16)) 0) (sym (lt-leb (j / 16) last g)))
       ∙ sym (chainsOf-at ks m last j b))
 
@@ -180,7 +180,7 @@ module _ (ks m : List ℕ) (last : ℕ) where
   carried-table f chains i long h top right rest blocks =
       table (chained ks f (last - i) i chains) (chained-long ks f (last - i) i chains ∙ long)
       (λ j l.
-      by-order j i (λ b. chained-before ks f (last - i) i chains j b ∙ right j b)
+      by_order j i (λ b. chained-before ks f (last - i) i chains j b ∙ right j b)
       (λ g.
       chained-right ks f m (last - i) i chains (omega arith) (right i (omega arith))
       (λ n a b. blocks n a (omega arith))

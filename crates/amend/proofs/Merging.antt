@@ -1,28 +1,28 @@
 -- Chain values that are carried on twice: what the first carrying stored behind the second one's place is not looked at,
 -- and where both frames have the same blocks ahead of that place, one carrying from the lower place gives the same.
 -- Assumes nothing.
-use mathlib.Core.Path.{_≡_, refl, sym, ap, ap₂, _∙_, subst}
+use mathlib.Core.Path.{◌≡◌, refl, sym, ap, ap₂, ◌∙◌, subst}
 use mathlib.Core.List.{List}
-use Prim.Native.Nat.{ℕ, zero, suc, _+_, _-_, _*_, _/_, _%_, _≤_, _<_}
+use Prim.Native.Nat.{ℕ, zero, suc, ◌+◌, ◌-◌, ◌*◌, ◌/◌, ◌%◌, ◌≤◌, ◌<◌}
 use native.Mathlib.Omega.{arith}
 use lib.ListN.{length, take}
 use lib.Seq.{sets, length-sets}
-use Rattle·base.specs.Bytes.{at, part, xorL}
-use Rattle·base.proofs.Tab.{same-at}
-use Rattle·base.proofs.Cases.{by-order}
-use Rattle·base.proofs.Parts.{part-take}
-use Rattle·aes.specs.Fips197.{cipher}
-use Rattle·aes.proofs.CipherLaws.{cipher-long}
-use Rattle·cmac.specs.Running.{resumed, absorbed, finished}
-use Rattle·amend·specs.specs.Amending.{lastPlace, chained, signedFrom}
-use Rattle·amend·proofs.proofs.Stores.{part-before, part-after, part-stored}
-use Rattle·amend·proofs.proofs.Chains.{by-block, chained-long, chained-before, chained-after}
+use Rattle.base.specs.Bytes.{at, part, xorL}
+use Rattle.base.proofs.Tab.{same_at}
+use Rattle.base.proofs.Cases.{by_order}
+use Rattle.base.proofs.Parts.{part-take}
+use Rattle.aes.specs.Fips197.{cipher}
+use Rattle.aes.proofs.CipherLaws.{cipher-long}
+use Rattle.cmac.specs.Running.{resumed, absorbed, finished}
+use Rattle.amend.specs.Amending.{lastPlace, chained, signedFrom}
+use Rattle.amend.proofs.Stores.{part-before, part-after, part-stored}
+use Rattle.amend.proofs.Chains.{by-block, chained-long, chained-before, chained-after}
 
 -- two strings that are the same at each place
 by-places : (s t : List ℕ) → length s ≡ 256 → length t ≡ 256
     → ((j : ℕ) → j < 16 → part (16 * j) 16 s ≡ part (16 * j) 16 t) → s ≡ t
 by-places s t hs ht e =
-    same-at 256 s t hs ht
+    same_at 256 s t hs ht
     (λ j b. by-block s j ∙ ap (λ (p : List ℕ). at p (j % 16)) (e (j / 16) (omega arith)) ∙ sym (by-block t j))
 
 module _ (ks : List ℕ) where
@@ -33,7 +33,7 @@ module _ (ks : List ℕ) where
       → chained ks f k i c ≡ chained ks f k i d
   unfolding chained
   chained-over f zero i c d hc hd top lo hi =
-      by-places c d hc hd (λ j b. by-order j i (lo j) (λ g. hi j b (omega arith)))
+      by-places c d hc hd (λ j b. by_order j i (lo j) (λ g. hi j b (omega arith)))
   chained-over f (suc k) i c d hc hd top lo hi =
       let u = xorL (part (16 * i) 16 c) (part (16 * i) 16 f) in
       let v = xorL (part (16 * i) 16 d) (part (16 * i) 16 f) in
@@ -43,7 +43,7 @@ module _ (ks : List ℕ) where
       chained-over f k (i + 1) (sets c (16 * (i + 1)) x) (sets d (16 * (i + 1)) y)
       (length-sets c (16 * (i + 1)) x ∙ hc) (length-sets d (16 * (i + 1)) y ∙ hd) (omega arith)
       (λ j l.
-      by-order j i
+      by_order j i
       (λ m.
       part-before (16 * j) 16 c (16 * (i + 1)) x (omega arith)
       ∙ lo j m
@@ -107,9 +107,9 @@ module _ (ks : List ℕ) where
         ∙ sym (chained-add g (last - p) (q - p) (last - q) p q c (omega arith) (omega arith))
 
 -- the MIC looks at the first n bytes alone
-pub signed-same : (ks f g : List ℕ) (n : ℕ) (c : List ℕ) → 0 < n → take n f ≡ take n g → signedFrom ks f n c ≡ signedFrom ks g n c
+pub signed_same : (ks f g : List ℕ) (n : ℕ) (c : List ℕ) → 0 < n → take n f ≡ take n g → signedFrom ks f n c ≡ signedFrom ks g n c
 unfolding signedFrom
-signed-same ks f g n c h e =
+signed_same ks f g n c h e =
     let i = 16 * lastPlace n in
     let part-is : part i (n - i) f ≡ part i (n - i) g =
     sym (part-take i (n - i) n f (omega arith)) ∙ ap (part i (n - i)) e ∙ part-take i (n - i) n g (omega arith) in

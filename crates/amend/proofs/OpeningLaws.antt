@@ -1,57 +1,57 @@
 -- What opening computes is what its definition says: the first chain value comes of B_0, carrying on gives the rest, the
 -- MIC from the last of them is that of the frame, and the bytes that are stored are the frame with zeros behind.
 -- Assumes nothing.
-use mathlib.Core.Path.{_≡_, sym, ap, ap₂, _∙_, subst}
+use mathlib.Core.Path.{◌≡◌, sym, ap, ap₂, ◌∙◌, subst}
 use mathlib.Core.Bool.{Bool, true, false}
-use mathlib.Core.List.{List, [], _∷_, _++_}
-use Prim.Native.Nat.{ℕ, _+_, _-_, _*_, _%_, _≤_, _<_}
+use mathlib.Core.List.{List, [], ◌∷◌, ◌++◌}
+use Prim.Native.Nat.{ℕ, ◌+◌, ◌-◌, ◌*◌, ◌%◌, ◌≤◌, ◌<◌}
 use native.Mathlib.Omega.{arith}
-use lib.ListN.{length, take, drop, replicate, length-replicate, getD-replicate, length-drop}
-use lib.Seq.{sets, sets-eq, length-sets, getD-drop, take-at}
-use borrow.Author.Tests.{eq-eqb, ne-eqb}
-use denote.Enum.Declared.{tagOf}
+use lib.ListN.{length, take, drop, replicate, length-replicate, get_or-replicate, length-drop}
+use lib.Seq.{sets, sets-eq, length-sets, get_or-drop, take_at}
+use borrow.Author.Tests.{eq-eqb, ne_eqb}
+use denote.Enum.Declared.{tag_of}
 use types.Run.{OneOf}
-use Rattle·base.specs.Bytes.{pick, part, xorL}
-use Rattle·base.proofs.Tab.{same-at}
-use Rattle·base.proofs.Lent.{part-long}
-use Rattle·base.proofs.Parts.{at-part}
-use Rattle·aes.specs.KeyExpansion.{keyExpansion}
-use Rattle·aes.specs.Fips197.{cipher}
-use Rattle·aes.proofs.CipherLaws.{cipher-long}
-use Rattle·frame_security.specs.Mic.{mic, sameBytes}
-use Rattle·cmac.specs.Doubling.{constZero}
-use Rattle·cmac.specs.Rfc4493.{chain, mac}
-use Rattle·cmac.proofs.CmacLaws.{chain-zero, chain-suc}
-use Rattle·frame.specs.Conditions.{IsData}
-use Rattle·frame.specs.Layout.{fcnt, micOf}
-use Rattle·frame.specs.ReadingNumbers.{otherRefusal, onData}
-use Rattle·frame.specs.Reading.{dataOf, readOf}
-use Rattle·frame.specs.declared.parser.DataFrame.{DataFrame}
-use Rattle·frame.specs.declared.parser.Reading.the-variants.{Data}
-use Rattle·frame.proofs.Others.{not-data}
-use Rattle·frame.proofs.ReadingLaws.{reads-data, data-fields}
-use Rattle·frame.proofs.parser.Reading as R
-use Rattle·frame_security.proofs.SecurityLaws.{micBlock-long}
-use Rattle·frame.specs.Refusals.{refused}
-use Rattle·amend·specs.specs.Amending.{openState, lastPlace, chained, signedFrom}
-use Rattle·amend·specs.specs.declared.amending.Open.{Open}
-use Rattle·amend·specs.specs.OpenFrame.{held, chainsOf, openedOf, refusedOpening, acceptedOpening, openChecked, openData, openOf}
-use Rattle·frame_security.specs.Sealing.{resealed}
-use Rattle·frame_security.specs.Security.{covered, micBlock, message, dataMic}
-use Rattle·frame_security.proofs.SealedFrames.{resealed-same}
-use Rattle·amend·proofs.proofs.Stores.{part-after, part-stored}
-use Rattle·amend·proofs.proofs.Chains.{Right, table-right, carried-table, block-behind, signed-right}
+use Rattle.base.specs.Bytes.{pick, part, xorL}
+use Rattle.base.proofs.Tab.{same_at}
+use Rattle.base.proofs.Lent.{part-long}
+use Rattle.base.proofs.Parts.{at_part}
+use Rattle.aes.specs.KeyExpansion.{keyExpansion}
+use Rattle.aes.specs.Fips197.{cipher}
+use Rattle.aes.proofs.CipherLaws.{cipher-long}
+use Rattle.frame_security.specs.Mic.{mic, sameBytes}
+use Rattle.cmac.specs.Doubling.{constZero}
+use Rattle.cmac.specs.Rfc4493.{chain, mac}
+use Rattle.cmac.proofs.CmacLaws.{chain-zero, chain-suc}
+use Rattle.frame.specs.Conditions.{IsData}
+use Rattle.frame.specs.Layout.{fcnt, micOf}
+use Rattle.frame.specs.ReadingNumbers.{otherRefusal, onData}
+use Rattle.frame.specs.Reading.{data_of, read_of}
+use Rattle.frame.specs.declared.parser.DataFrame.{DataFrame}
+use Rattle.frame.specs.declared.parser.Reading.TheVariants.{Data}
+use Rattle.frame.proofs.Others.{not-data}
+use Rattle.frame.proofs.ReadingLaws.{reads-data, data-fields}
+use Rattle.frame.specs.contracts.parser.Reading as R
+use Rattle.frame_security.proofs.SecurityLaws.{micBlock-long}
+use Rattle.frame.specs.Refusals.{refused}
+use Rattle.amend.specs.Amending.{openState, lastPlace, chained, signedFrom}
+use Rattle.amend.specs.declared.amending.Open.{Open}
+use Rattle.amend.specs.OpenFrame.{held, chainsOf, opened_of, refusedOpening, acceptedOpening, openChecked, openData, openOf}
+use Rattle.frame_security.specs.Sealing.{resealed}
+use Rattle.frame_security.specs.Security.{covered, micBlock, message, dataMic}
+use Rattle.frame_security.proofs.SealedFrames.{resealed-same}
+use Rattle.amend.proofs.Stores.{part-after, part-stored}
+use Rattle.amend.proofs.Chains.{Right, table-right, carried-table, block-behind, signed-right}
 
 -- a part of zeros
 part-zeros : (i n k : ℕ) → i + n ≤ k → part i n (replicate {A = ℕ} k 0) ≡ replicate {A = ℕ} n 0
 part-zeros i n k h =
-    same-at n (part i n (replicate {A = ℕ} k 0)) (replicate {A = ℕ} n 0)
+    same_at n (part i n (replicate {A = ℕ} k 0)) (replicate {A = ℕ} n 0)
     (part-long i n (replicate {A = ℕ} k 0) (omega (arith, length-replicate {A = ℕ} k 0)))
     (length-replicate {A = ℕ} n 0)
     (λ j l.
-    at-part i n (replicate {A = ℕ} k 0) j l
-    ∙ getD-replicate {A = ℕ} k (i + j) 0 0 (omega arith)
-    ∙ sym (getD-replicate {A = ℕ} n j 0 0 l))
+    at_part i n (replicate {A = ℕ} k 0) j l
+    ∙ get_or-replicate {A = ℕ} k (i + j) 0 0 (omega arith)
+    ∙ sym (get_or-replicate {A = ℕ} n j 0 0 l))
 
 module _ (ks f : List ℕ) (counter : ℕ) (lo : 12 ≤ length f) (hi : length f ≤ 255) where
   -- the chain values that opening computes
@@ -70,7 +70,7 @@ module _ (ks f : List ℕ) (counter : ℕ) (lo : 12 ≤ length f) (hi : length f
       let none-long : length none ≡ 256 = length-replicate {A = ℕ} 256 0 in
       let first : chain ks m 1 ≡ x =
       chain-suc ks m 0
-      ∙ ap₂ (λ (y p : List ℕ). cipher ks (xorL y p)) (chain-zero ks m) (take-at b (covered f) 16 b-long) in
+      ∙ ap₂ (λ (y p : List ℕ). cipher ks (xorL y p)) (chain-zero ks m) (take_at b (covered f) 16 b-long) in
       let right : Right ks m (sets none 0 x) 0 = part-stored none 0 16 x x-long (omega arith) ∙ sym first in
       carried-table ks m last f (sets none 0 x) 0 (length-sets none 0 x ∙ none-long) (omega arith) (omega arith)
       (λ j l.
@@ -114,16 +114,16 @@ module _ (f nwk app : List ℕ) (counter : ℕ) {t : Bool} (e : t ≡ sameBytes 
   resealing : t ≡ sameBytes (resealed f nwk app counter) f
   resealing = e ∙ sym (resealed-same f nwk app counter)
 
-  pub checked-opens : t ≡ true → {s : Open} → s ≡ openedOf f nwk app counter → acceptedOpening s ≡ openChecked f nwk app counter
+  pub checked-opens : t ≡ true → {s : Open} → s ≡ opened_of f nwk app counter → acceptedOpening s ≡ openChecked f nwk app counter
   unfolding openChecked
   checked-opens h made =
       ap acceptedOpening made
-      ∙ ap (λ (b : Bool). pick b (acceptedOpening (openedOf f nwk app counter)) (refusedOpening (refused 5))) (sym h ∙ resealing)
+      ∙ ap (λ (b : Bool). pick b (acceptedOpening (opened_of f nwk app counter)) (refusedOpening (refused 5))) (sym h ∙ resealing)
 
   pub checked-refuses : t ≡ false → refusedOpening (refused 5) ≡ openChecked f nwk app counter
   unfolding openChecked
   checked-refuses h =
-      ap (λ (b : Bool). pick b (acceptedOpening (openedOf f nwk app counter)) (refusedOpening (refused 5))) (sym h ∙ resealing)
+      ap (λ (b : Bool). pick b (acceptedOpening (opened_of f nwk app counter)) (refusedOpening (refused 5))) (sym h ∙ resealing)
 
 -- the frame stored at the front of 255 zeros
 pub stored-frame : (f : List ℕ) → length f ≤ 255 → sets (replicate {A = ℕ} 255 0) 0 f ≡ held f
@@ -131,25 +131,25 @@ unfolding held
 stored-frame f h =
     let long : length (replicate {A = ℕ} 255 0) ≡ 255 = length-replicate {A = ℕ} 255 0 in
     let rest : drop (0 + length f) (replicate {A = ℕ} 255 0) ≡ replicate {A = ℕ} (255 - length f) 0 =
-    same-at (255 - length f) (drop (0 + length f) (replicate {A = ℕ} 255 0)) (replicate {A = ℕ} (255 - length f) 0)
+    same_at (255 - length f) (drop (0 + length f) (replicate {A = ℕ} 255 0)) (replicate {A = ℕ} (255 - length f) 0)
     (omega (arith, length-drop (0 + length f) (replicate {A = ℕ} 255 0)))
     (length-replicate {A = ℕ} (255 - length f) 0)
     (λ j l.
-    getD-drop (0 + length f) (replicate {A = ℕ} 255 0) j 0
-    ∙ getD-replicate {A = ℕ} 255 (0 + length f + j) 0 0 (omega arith)
-    ∙ sym (getD-replicate {A = ℕ} (255 - length f) j 0 0 l)) in
+    get_or-drop (0 + length f) (replicate {A = ℕ} 255 0) j 0
+    ∙ get_or-replicate {A = ℕ} 255 (0 + length f + j) 0 0 (omega arith)
+    ∙ sym (get_or-replicate {A = ℕ} (255 - length f) j 0 0 l)) in
     sets-eq f (replicate {A = ℕ} 255 0) 0 (omega arith) ∙ ap (λ (l : List ℕ). f ++ l) rest
 
 -- the state by what the code computes
-pub opened-is : (f nwk app : List ℕ) (counter : ℕ) {g ks ks′ chains : List ℕ} → g ≡ held f → ks ≡ keyExpansion nwk
-    → ks′ ≡ keyExpansion app → chains ≡ chainsOf ks (message (covered f) counter) (lastPlace (length f - 4))
-    → openState g (length f) ks ks′ counter chains ≡ openedOf f nwk app counter
-unfolding openedOf
-opened-is f nwk app counter {g} {ks} {ks′} {chains} hg hk hk′ hc =
+pub opened-is : (f nwk app : List ℕ) (counter : ℕ) {g ks ks' chains : List ℕ} → g ≡ held f → ks ≡ keyExpansion nwk
+    → ks' ≡ keyExpansion app → chains ≡ chainsOf ks (message (covered f) counter) (lastPlace (length f - 4))
+    → openState g (length f) ks ks' counter chains ≡ opened_of f nwk app counter
+unfolding opened_of
+opened-is f nwk app counter {g} {ks} {ks'} {chains} hg hk hk' hc =
     let m = message (covered f) counter in
     let last = lastPlace (length f - 4) in
-    ap₂ (λ (x y : List ℕ). openState x (length f) ks ks′ counter y) hg hc
-    ∙ ap₂ (λ (x y : List ℕ). openState (held f) (length f) x y counter (chainsOf x m last)) hk hk′
+    ap₂ (λ (x y : List ℕ). openState x (length f) ks ks' counter y) hg hc
+    ∙ ap₂ (λ (x y : List ℕ). openState (held f) (length f) x y counter (chainsOf x m last)) hk hk'
 
 -- ---- the answers
 
@@ -164,10 +164,10 @@ module _ (f nwk app : List ℕ) (counter : ℕ) where
 
   pub counter-wrong : (counter % 65536 ≡ fcnt f → ⊥) → openData f nwk app counter ≡ refusedOpening (refused 14)
   unfolding openData
-  counter-wrong n = simp (ne-eqb (counter % 65536) (fcnt f) n)
+  counter-wrong n = simp (ne_eqb (counter % 65536) (fcnt f) n)
 
   -- a reading of another type
-  pub open-other : OneOf (0 ∷ 1 ∷ 3 ∷ []) (tagOf R.the-type (readOf f))
-      → openOf f nwk app counter ≡ refusedOpening (otherRefusal (readOf f))
+  pub open-other : OneOf (0 ∷ 1 ∷ 3 ∷ []) (tag_of R.the_type (read_of f))
+      → openOf f nwk app counter ≡ refusedOpening (otherRefusal (read_of f))
   unfolding openOf
-  open-other h = not-data refusedOpening (λ d. openData f nwk app counter) (readOf f) h
+  open-other h = not-data refusedOpening (λ d. openData f nwk app counter) (read_of f) h

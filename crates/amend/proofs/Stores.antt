@@ -1,13 +1,13 @@
 -- A run of bytes that is stored in a string: what the string's parts hold afterwards.
 -- Assumes nothing.
-use mathlib.Core.Path.{_≡_, refl, sym, ap, _∙_}
-use mathlib.Core.List.{List, [], _∷_, _++_, append-assoc}
-use Prim.Native.Nat.{ℕ, suc, _+_, _-_, _≤_}
+use mathlib.Core.Path.{◌≡◌, refl, sym, ap, ◌∙◌}
+use mathlib.Core.List.{List, [], ◌∷◌, ◌++◌, append_assoc}
+use Prim.Native.Nat.{ℕ, suc, ◌+◌, ◌-◌, ◌≤◌}
 use native.Mathlib.Omega.{arith}
 use lib.ListN.{length, take, drop, set, length-drop, length-take}
-use lib.Seq.{sets, sets-eq, take-all, take-at, drop-at, take-set-le, drop-set-lt, length-take-le}
-use Rattle·base.specs.Bytes.{part}
-use Rattle·base.proofs.Parts.{part-take}
+use lib.Seq.{sets, sets-eq, take_all, take_at, drop_at, take-set-le, drop-set-lt, length-take-le}
+use Rattle.base.specs.Bytes.{part}
+use Rattle.base.proofs.Parts.{part-take}
 
 pub take-sets : (n : ℕ) (l : List ℕ) (a : ℕ) (vs : List ℕ) → n ≤ a → take n (sets l a vs) ≡ take n l
 take-sets n l a [] h = refl
@@ -32,12 +32,12 @@ part-after i n l a vs h = ap (take n) (drop-sets i l a vs h)
 pub part-stored : (l : List ℕ) (a n : ℕ) (vs : List ℕ) → length vs ≡ n → a + n ≤ length l → part a n (sets l a vs) ≡ vs
 part-stored l a n vs e h =
     let rest = drop (a + length vs) l in
-    ap (part a n) (sets-eq vs l a (omega arith) ∙ append-assoc (take a l) vs rest)
-    ∙ ap (take n) (drop-at (take a l) (vs ++ rest) a (length-take-le a l (omega arith)))
-    ∙ take-at vs rest n e
+    ap (part a n) (sets-eq vs l a (omega arith) ∙ append_assoc (take a l) vs rest)
+    ∙ ap (take n) (drop_at (take a l) (vs ++ rest) a (length-take-le a l (omega arith)))
+    ∙ take_at vs rest n e
 
 -- the first n bytes without their first i are a part
 pub drop-take : (i n : ℕ) (s : List ℕ) → i ≤ n → drop i (take n s) ≡ part i (n - i) s
 drop-take i n s h =
     let short : length (drop i (take n s)) ≤ n - i = omega (arith, length-drop i (take n s), length-take n s) in
-    sym (take-all (n - i) (drop i (take n s)) short) ∙ part-take i (n - i) n s (omega arith)
+    sym (take_all (n - i) (drop i (take n s)) short) ∙ part-take i (n - i) n s (omega arith)

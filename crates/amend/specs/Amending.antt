@@ -3,40 +3,37 @@
 -- afresh. The message of the MIC is B_0, one block, and then the frame up to its MIC, so that the frame's block
 -- i is the message's block i + 1; place i of the chain values is what stands ahead of the frame's block i.
 -- Assumes nothing.
-use mathlib.Core.List.{List}
-use Prim.Native.Nat.{ℕ, zero, suc, _+_, _-_, _*_, _/_}
-use lib.Dec.{leb, ltb}
-use lib.ListN.{length, take, set}
-use lib.Seq.{sets}
-use Rattle·base.specs.Bytes.{pick, part, _⊕_, xorL}
-use Rattle·aes.specs.Fips197.{cipher}
-use Rattle·cmac.specs.Running.{resumed, absorbed, finished}
-use Rattle·frame.specs.Layout.{payloadStart}
-use Rattle·frame.specs.Refusals.{refused, notRefused}
-use Rattle·frame_security.specs.Security.{streamAt, payloadKey}
-use Rattle·amend·specs.specs.declared.amending.Open.{Open}
-use Rattle·amend·specs.specs.declared.amending.Amended.{Amended}
+use Rattle.std.specs.Prelude.{List, ℕ, zero, suc, ◌+◌, ◌-◌, ◌*◌, ◌/◌, leb, ltb, length, take, set}
+use Rattle.std.proofs.lemmas.List.Edits.{sets}
+use Rattle.base.specs.Bytes.{pick, part, ◌⊕◌, xorL}
+use Rattle.aes.specs.Fips197.{cipher}
+use Rattle.cmac.specs.Running.{resumed, absorbed, finished}
+use Rattle.frame.specs.Layout.{payloadStart}
+use Rattle.frame.specs.Refusals.{refused, notRefused}
+use Rattle.frame_security.specs.Security.{streamAt, payloadKey}
+use Rattle.amend.specs.declared.amending.Open.{Open}
+use Rattle.amend.specs.declared.amending.Amended.{Amended}
 
 -- a state by its fields
 abbrev pub openState : List ℕ → ℕ → List ℕ → List ℕ → ℕ → List ℕ → Open
 openState f n nwk app counter chains =
-    record { frame = f; length = n; «nwk_schedule» = nwk; «app_schedule» = app; counter = counter; chains = chains }
+    record { frame = f; length = n; nwk_schedule = nwk; app_schedule = app; counter = counter; chains = chains }
 
 -- where the payload ends and the MIC begins
 abbrev pub stop : Open → ℕ
-stop s = s .length - 4
+stop s = s.length - 4
 
 -- how many bytes the payload has; in a state whose length is past 255 there is none
 abbrev pub payloadLength : Open → ℕ
-payloadLength s = pick (leb (s .length) 255) (stop s - payloadStart (s .frame)) 0
+payloadLength s = pick (leb s.length 255) (stop s - payloadStart s.frame) 0
 
 -- 4.3.3 the schedule of the payload's key
 abbrev pub schedule : Open → List ℕ
-schedule s = payloadKey (s .frame) (payloadLength s) (s .«nwk_schedule») (s .«app_schedule»)
+schedule s = payloadKey s.frame (payloadLength s) s.nwk_schedule s.app_schedule
 
 -- the clear value v for payload byte k, encrypted
 abbrev pub encryptedByte : Open → ℕ → ℕ → ℕ
-encryptedByte s k v = v ⊕ streamAt (schedule s) (s .frame) (s .counter) k
+encryptedByte s k v = v ⊕ streamAt (schedule s) s.frame s.counter k
 
 -- the place of the last chain value, ahead of the last block of the n bytes that the MIC covers
 abbrev pub lastPlace : ℕ → ℕ
@@ -66,10 +63,10 @@ resigned ks f n p chains = sets f n (signedFrom ks f n (carried ks f n p chains)
 -- payload byte k set to the clear value v: the byte encrypted, the chain values from its block on, and the MIC
 unfoldable pub amendedTo : Open → ℕ → ℕ → Open
 amendedTo s k v =
-    let p = payloadStart (s .frame) + k in
-    let f = set (s .frame) p (encryptedByte s k v) in
-    openState (resigned (s .«nwk_schedule») f (stop s) p (s .chains)) (s .length) (s .«nwk_schedule») (s .«app_schedule»)
-    (s .counter) (carried (s .«nwk_schedule») f (stop s) p (s .chains))
+    let p = payloadStart s.frame + k in
+    let f = set s.frame p (encryptedByte s k v) in
+    openState (resigned s.nwk_schedule f (stop s) p s.chains) s.length s.nwk_schedule s.app_schedule
+    s.counter (carried s.nwk_schedule f (stop s) p s.chains)
 
 -- a payload byte may be set where there is one; elsewhere 15, with the state as it was
 unfoldable pub amendOf : Open → ℕ → ℕ → Amended

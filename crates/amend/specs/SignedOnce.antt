@@ -3,18 +3,14 @@
 -- `list-alike` there ties `amendListOf` to `amendAll`, which stops at the first refusal. An amendment is a number, offset * 256
 -- + value. For every state, also one that no call made (docs/RULES.md, Amendments).
 -- Assumes nothing.
-use mathlib.Core.Bool.{Bool, true, false}
-use mathlib.Core.List.{List, [], _∷_}
-use Prim.Native.Nat.{ℕ, _+_, _/_, _%_, min}
-use lib.Dec.{ltb}
-use lib.ListN.{set}
-use Rattle·base.specs.Bytes.{pick, _⊕_}
-use Rattle·frame.specs.Refusals.{refused, notRefused}
-use Rattle·frame_security.specs.Security.{streamAt}
-use Rattle·amend·specs.specs.declared.amending.Open.{Open}
-use Rattle·amend·specs.specs.declared.amending.Amended.{Amended}
-use Rattle·amend·specs.specs.Amending.{payloadLength}
-use Rattle·amend·specs.specs.AmendmentLists.{amendedBy, decodedAll}
+use Rattle.std.specs.Prelude.{Bool, true, false, List, [], ◌∷◌, ℕ, ◌+◌, ◌/◌, ◌%◌, min, ltb, set}
+use Rattle.base.specs.Bytes.{pick, ◌⊕◌}
+use Rattle.frame.specs.Refusals.{refused, notRefused}
+use Rattle.frame_security.specs.Security.{streamAt}
+use Rattle.amend.specs.declared.amending.Open.{Open}
+use Rattle.amend.specs.declared.amending.Amended.{Amended}
+use Rattle.amend.specs.Amending.{payloadLength}
+use Rattle.amend.specs.AmendmentLists.{amendedBy, decodedAll}
 
 -- each offset of a list lies inside a payload of so many bytes
 unfoldable pub allInside : ℕ → List ℕ → Bool

@@ -1,28 +1,21 @@
 // An open frame, and one amendment of it: a payload byte is set, and the frame signed anew from the block that holds it.
-ghost use mathlib.Core.Path.{_≡_};
-ghost use Prim.Native.Nat.{_+_, _-_, _*_, _%_, _≤_, _<_};
-ghost use lib.Dec.{leb};
-ghost use lib.ListN.{length};
-ghost use Rattle·base.specs.Bytes.{pick};
-ghost use Rattle·frame.specs.Layout.{payloadStart};
-ghost use Rattle·frame_security.specs.Security.{streamAt, payloadKey};
-ghost use Rattle·amend·specs.specs.Amending.{lastPlace, chained, signedFrom, carried, resigned, amendedTo, amendOf};
-use base::storing::block_at;
-use base::storing::put;
-use frame::packet_length::FCTRL_AT;
-use frame::packet_length::MIC_LEN;
-use frame::packet_length::PHY_PAYLOAD_MAX_LEN;
+ghost use Rattle.std.specs.Prelude.{◌≡◌, ◌+◌, ◌-◌, ◌*◌, ◌%◌, ◌≤◌, ◌<◌, leb, length};
+ghost use Rattle.base.specs.Bytes.{pick};
+ghost use Rattle.frame.specs.Layout.{payloadStart};
+ghost use Rattle.frame_security.specs.Security.{streamAt, payloadKey};
+ghost use Rattle.amend.specs.Amending.{lastPlace, chained, signedFrom, carried, resigned, amendedTo, amendOf};
+
+use base::storing::{block_at, put};
+use frame::packet_length::{FCTRL_AT, MIC_LEN, PHY_PAYLOAD_MAX_LEN};
 use frame::parser::fhdr_length;
-use frame::refusals::OFFSET_OUTSIDE;
-use frame::refusals::Refusal;
+use frame::refusals::{OFFSET_OUTSIDE, Refusal};
 use frame_security::mic::mic_of;
-use frame_security::securityhelpers::by_network_key;
-use frame_security::securityhelpers::start_of;
-use frame_security::securityhelpers::stream_block;
+use frame_security::securityhelpers::{by_network_key, start_of, stream_block};
 
 // An open frame: the bytes of the frame (zeros behind them) and how many they are, both keys expanded, the whole
 // counter, and what the MIC's chain holds ahead of each 16-byte block of the frame, sixteen bytes each. The state of a
 // refused opening is all zeros.
+#[derive(Drop)]
 pub struct Open {
     pub frame: [u8; 255],
     pub length: usize,
@@ -33,6 +26,7 @@ pub struct Open {
 }
 
 // What an amendment gives: 0 and the amended state, or a refusal and the state that it was given.
+#[derive(Drop)]
 pub struct Amended {
     pub refusal: Refusal,
     pub state: Open,
@@ -46,8 +40,8 @@ pub(crate) fn carry_on(
     from: usize,
     to: usize,
 )
-    requires { ⌜ (from ≤ to) × (16 * to ≤ length (now frame)) × (16 * to + 16 ≤ length (now chains)) × (to ≤ 15) ⌝ }
-    ensures { λ _. ⌜ now (chains .exit) ≡ chained (now (schedule .entry)) (now (frame .entry)) (to - from) from (now (chains .entry)) ⌝ }
+    requires { (from ≤ to) × (16 * to ≤ length frame.now) × (16 * to + 16 ≤ length chains.old) × (to ≤ 15) }
+    ensures { chains.new ≡ chained schedule.now frame.now (to - from) from chains.old }
 {
     let mut i = from;
     while i < to {
@@ -61,8 +55,8 @@ pub(crate) fn carry_on(
 
 // The MIC of the first `n` bytes of the frame, from the last chain value on.
 pub(crate) fn sign_from(schedule: &[u8; 176], frame: &[u8], n: usize, chains: &[u8]) -> [u8; 4]
-    requires { ⌜ (0 < n) × (n ≤ length (now frame)) × (16 * lastPlace n + 16 ≤ length (now chains)) ⌝ }
-    ensures { λ r. ⌜ r ≡ signedFrom (now (schedule .entry)) (now (frame .entry)) n (now (chains .entry)) ⌝ }
+    requires { (0 < n) × (n ≤ length frame.now) × (16 * lastPlace n + 16 ≤ length chains.now) }
+    ensures { result ≡ signedFrom schedule.now frame.now n chains.now }
 {
     let start = 16 * ((n - 1) / 16);
     let chain = block_at(chains, start);
@@ -75,7 +69,7 @@ pub(crate) fn sign_from(schedule: &[u8; 176], frame: &[u8], n: usize, chains: &[
 
 // The key stream's byte for payload byte `k`.
 fn mask_at(schedule: &[u8; 176], frame: &[u8], counter: u32, k: usize) -> u8
-    ensures { λ r. ⌜ r ≡ streamAt (now (schedule .entry)) (now (frame .entry)) counter k ⌝ }
+    ensures { result ≡ streamAt schedule.now frame.now counter k }
 {
     let start = start_of(frame);
     let stream = stream_block(schedule, start, counter, k);
@@ -91,9 +85,8 @@ fn payload_mask(
     counter: u32,
     k: usize,
 ) -> u8
-    ensures { λ r.
-        ⌜ r
-        ≡ streamAt (payloadKey (now (frame .entry)) count (now (nwk .entry)) (now (app .entry))) (now (frame .entry)) counter k ⌝ }
+    ensures { result
+        ≡ streamAt (payloadKey frame.now count nwk.now app.now) frame.now counter k }
 {
     if by_network_key(frame, count) {
         return mask_at(nwk, frame, counter, k);
@@ -103,9 +96,9 @@ fn payload_mask(
 
 // The frame and its chain values after byte `p` of it was changed, signed anew; `n` bytes are ahead of the MIC.
 pub(crate) fn resign(schedule: &[u8; 176], frame: &mut [u8], chains: &mut [u8], n: usize, p: usize)
-    requires { ⌜ (p < n) × (n + 4 ≤ length (now frame)) × (length (now chains) ≡ 256) × (n ≤ 251) ⌝ }
-    ensures { λ _. ⌜ now (chains .exit) ≡ carried (now (schedule .entry)) (now (frame .entry)) n p (now (chains .entry)) ⌝ }
-    ensures { λ _. ⌜ now (frame .exit) ≡ resigned (now (schedule .entry)) (now (frame .entry)) n p (now (chains .entry)) ⌝ }
+    requires { (p < n) × (n + 4 ≤ length frame.old) × (length chains.old ≡ 256) × (n ≤ 251) }
+    ensures chains_after { chains.new ≡ carried schedule.now frame.old n p chains.old }
+    ensures frame_after { frame.new ≡ resigned schedule.now frame.old n p chains.old }
 {
     carry_on(schedule, frame, chains, p / 16, (n - 1) / 16);
     let mic = sign_from(schedule, frame, n, chains);
@@ -114,7 +107,7 @@ pub(crate) fn resign(schedule: &[u8; 176], frame: &mut [u8], chains: &mut [u8], 
 
 // How many payload bytes there are, by FCtrl and the length of the frame; past 255 bytes there are none.
 pub(crate) fn payload_length(fctrl: u8, total: usize) -> usize
-    ensures { λ r. ⌜ r ≡ pick (leb total 255) (total - 4 - (7 + fctrl % 16 + 2)) 0 ⌝ }
+    ensures { result ≡ pick (leb total 255) (total - 4 - (7 + fctrl % 16 + 2)) 0 }
 {
     let start = fhdr_length(fctrl) + 2;
     if PHY_PAYLOAD_MAX_LEN < total {
@@ -129,8 +122,8 @@ pub(crate) fn payload_length(fctrl: u8, total: usize) -> usize
 impl Open {
     // The payload byte at the offset set, and the frame signed anew.
     fn amended(self, offset: usize, value: u8) -> Open
-        requires { ⌜ (payloadStart (self .frame) + offset < self .length - 4) × (self .length ≤ 255) ⌝ }
-        ensures { λ r. ⌜ r ≡ amendedTo self offset value ⌝ }
+        requires { (payloadStart self.frame + offset < self.length - 4) × (self.length ≤ 255) }
+        ensures { result ≡ amendedTo self offset value }
     {
         let mut frame = self.frame;
         let mut chains = self.chains;
@@ -156,7 +149,7 @@ impl Open {
     // Sets the payload byte at the offset to the clear value; the frame is then encrypted and signed anew. 15 where
     // there is no such byte, with the state as it was.
     pub fn amend(self, offset: usize, value: u8) -> Amended
-        ensures { λ r. ⌜ r ≡ amendOf self offset value ⌝ }
+        ensures { result ≡ amendOf self offset value }
     {
         let total = self.length;
         let count = payload_length(self.frame[FCTRL_AT], total);

@@ -1,31 +1,22 @@
 // Lists of amendments, each a number offset * 256 + value, on an open frame or on one that is lent as bytes. Every offset is
 // tested first, then every byte stored, and the frame signed once, from the first block that changed. What the frame is
 // after any list (demand 3) is proved here, in proofs/Demand3.antt.
-ghost use mathlib.Core.Path.{_≡_};
-ghost use mathlib.Core.Bool.{true};
-ghost use Prim.Native.Nat.{_-_, _≤_, _<_};
-ghost use lib.ListN.{length};
-ghost use Rattle·frame_security.specs.Security.{payloadKey};
-ghost use Rattle·amend·specs.specs.Amending.{payloadLength};
-ghost use Rattle·amend·specs.specs.AmendmentLists.{amendedBy, decodedAll, amendFrameOf, amendedFrame};
-ghost use Rattle·amend·specs.specs.SignedOnce.{allInside, amendListOf, storedAll, lowest};
-use crate::amending::Amended;
-use crate::amending::Open;
-use crate::amending::payload_length;
-use crate::amending::resign;
+ghost use Rattle.std.specs.Prelude.{◌≡◌, true, ◌-◌, ◌≤◌, ◌<◌, length};
+ghost use Rattle.frame_security.specs.Security.{payloadKey};
+ghost use Rattle.amend.specs.Amending.{payloadLength};
+ghost use Rattle.amend.specs.AmendmentLists.{amendedBy, decodedAll, amendFrameOf, amendedFrame};
+ghost use Rattle.amend.specs.SignedOnce.{allInside, amendListOf, storedAll, lowest};
+
+use crate::amending::{Amended, Open, payload_length, resign};
 use crate::opening::open_frame;
-use frame::packet_length::FCTRL_AT;
-use frame::packet_length::MIC_LEN;
+use frame::packet_length::{FCTRL_AT, MIC_LEN};
 use frame::parser::fhdr_length;
-use frame::refusals::OFFSET_OUTSIDE;
-use frame::refusals::Refusal;
-use frame_security::securityhelpers::by_network_key;
-use frame_security::securityhelpers::start_of;
-use frame_security::securityhelpers::stream_block;
+use frame::refusals::{OFFSET_OUTSIDE, Refusal};
+use frame_security::securityhelpers::{by_network_key, start_of, stream_block};
 
 // Whether each offset of a list is below `count`.
 fn all_inside(amendments: &[u32], count: usize) -> bool
-    ensures { λ r. ⌜ r ≡ allInside count (now (amendments .entry)) ⌝ }
+    ensures { result ≡ allInside count amendments.now }
 {
     let mut i: usize = 0;
     while i < amendments.len() {
@@ -41,8 +32,8 @@ fn all_inside(amendments: &[u32], count: usize) -> bool
 
 // The lowest place of the frame that a list changes, or `top`; the payload begins at `start`.
 fn lowest_place(amendments: &[u32], start: usize, top: usize) -> usize
-    requires { ⌜ start ≤ 255 ⌝ }
-    ensures { λ r. ⌜ r ≡ lowest start top (now (amendments .entry)) ⌝ }
+    requires { start ≤ 255 }
+    ensures { result ≡ lowest start top amendments.now }
 {
     let mut low = top;
     let mut i: usize = 0;
@@ -69,10 +60,9 @@ fn store_under(
     frame: &mut [u8],
     amendments: &[u32],
 )
-    requires { ⌜ (length (now frame) ≤ 255) × (start ≤ 255) × (allInside (length (now frame) - start) (now amendments) ≡ true) ⌝ }
-    ensures { λ _.
-        ⌜ now (frame .exit)
-        ≡ storedAll (now (schedule .entry)) first counter start (now (frame .entry)) (now (amendments .entry)) ⌝ }
+    requires { (length frame.old ≤ 255) × (start ≤ 255) × (allInside (length frame.old - start) amendments.now ≡ true) }
+    ensures { frame.new
+        ≡ storedAll schedule.now first counter start frame.old amendments.now }
 {
     let mut stream = [0u8; 16];
     let mut held: usize = 16;
@@ -103,11 +93,10 @@ fn store_all(
     frame: &mut [u8],
     amendments: &[u32],
 )
-    requires { ⌜ (length (now frame) ≤ 255) × (start ≤ 255) × (allInside (length (now frame) - start) (now amendments) ≡ true) ⌝ }
-    ensures { λ _.
-        ⌜ now (frame .exit)
-        ≡ storedAll (payloadKey (now (frame .entry)) count (now (nwk .entry)) (now (app .entry))) (now (frame .entry)) counter
-        start (now (frame .entry)) (now (amendments .entry)) ⌝ }
+    requires { (length frame.old ≤ 255) × (start ≤ 255) × (allInside (length frame.old - start) amendments.now ≡ true) }
+    ensures { frame.new
+        ≡ storedAll (payloadKey frame.old count nwk.now app.now) frame.old counter
+        start frame.old amendments.now }
 {
     let first = start_of(frame);
     if by_network_key(frame, count) {
@@ -119,8 +108,8 @@ fn store_all(
 
 // Every payload byte that a list names set, in order, and the frame signed anew once.
 fn amended_list(state: Open, amendments: &[u32]) -> Open
-    requires { ⌜ (allInside (payloadLength state) (now amendments) ≡ true) × (0 < length (now amendments)) ⌝ }
-    ensures { λ r. ⌜ r ≡ amendedBy state (decodedAll (now (amendments .entry))) ⌝ }
+    requires { (allInside (payloadLength state) amendments.now ≡ true) × (0 < length amendments.now) }
+    ensures { result ≡ amendedBy state (decodedAll amendments.now) }
 {
     let mut frame = state.frame;
     let mut chains = state.chains;
@@ -147,7 +136,7 @@ fn amended_list(state: Open, amendments: &[u32]) -> Open
 // Applies a list of amendments to an open frame, in order. 15 where any offset lies outside the payload, with the state as
 // it was.
 pub fn amend_list(state: Open, amendments: &[u32]) -> Amended
-    ensures { λ r. ⌜ r ≡ amendListOf state (now (amendments .entry)) ⌝ }
+    ensures { result ≡ amendListOf state amendments.now }
 {
     if amendments.len() == 0 {
         return Amended {
@@ -187,8 +176,8 @@ pub fn amend_frame(
     counter: u32,
     amendments: &[u32],
 ) -> Refusal
-    ensures { λ r. ⌜ r ≡ amendFrameOf (now (frame .entry)) «nwk_skey» «app_skey» counter (now (amendments .entry)) ⌝ }
-    ensures { λ _. ⌜ now (frame .exit) ≡ amendedFrame (now (frame .entry)) «nwk_skey» «app_skey» counter (now (amendments .entry)) ⌝ }
+    ensures value { result ≡ amendFrameOf frame.old nwk_skey app_skey counter amendments.now }
+    ensures frame_after { frame.new ≡ amendedFrame frame.old nwk_skey app_skey counter amendments.now }
 {
     let opening = open_frame(frame, nwk_skey, app_skey, counter);
     let refusal = opening.refusal;

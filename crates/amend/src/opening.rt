@@ -1,26 +1,20 @@
 // Opening a data frame for amendments: the frame is copied, and both keys, the counter and the MIC's chain values are kept.
-ghost use mathlib.Core.Path.{_≡_};
-ghost use Prim.Native.Nat.{_-_, _≤_};
-ghost use lib.ListN.{length};
-ghost use Rattle·frame_security.specs.Security.{covered, message};
-ghost use Rattle·amend·specs.specs.Amending.{lastPlace};
-ghost use Rattle·amend·specs.specs.OpenFrame.{chainsOf, nothing, refusedOpening, openChecked, openOf};
-use crate::amending::Open;
-use crate::amending::carry_on;
-use crate::amending::sign_from;
-use base::storing::four_at;
-use base::storing::put;
+ghost use Rattle.std.specs.Prelude.{◌≡◌, ◌-◌, ◌≤◌, length};
+ghost use Rattle.frame_security.specs.Security.{covered, message};
+ghost use Rattle.amend.specs.Amending.{lastPlace};
+ghost use Rattle.amend.specs.OpenFrame.{chainsOf, nothing, refusedOpening, openChecked, openOf};
+
+use crate::amending::{Open, carry_on, sign_from};
+use base::storing::{four_at, put};
 use frame::numbers::other_refusal;
 use frame::packet_length::MIC_LEN;
-use frame::parser::Reading;
-use frame::parser::read;
-use frame::refusals::COUNTER_MISMATCH;
-use frame::refusals::INVALID_MIC;
-use frame::refusals::Refusal;
+use frame::parser::{Reading, read};
+use frame::refusals::{COUNTER_MISMATCH, INVALID_MIC, Refusal};
 use frame_security::mic::same_mic;
 use frame_security::securityhelpers::mic_block;
 
 // What opening gives: 0 and the open frame, or a refusal and the state that is all zeros.
+#[derive(Drop)]
 pub struct Opened {
     pub refusal: Refusal,
     pub state: Open,
@@ -28,7 +22,7 @@ pub struct Opened {
 
 // The state of a refused opening: all zeros.
 fn no_state() -> Open
-    ensures { λ r. ⌜ r ≡ nothing ⌝ }
+    ensures { result ≡ nothing }
 {
     let frame = [0u8; 255];
     let nwk_schedule = [0u8; 176];
@@ -45,7 +39,7 @@ fn no_state() -> Open
 }
 
 fn not_opened(refusal: Refusal) -> Opened
-    ensures { λ r. ⌜ r ≡ refusedOpening refusal ⌝ }
+    ensures { result ≡ refusedOpening refusal }
 {
     let state = no_state();
     Opened { refusal, state }
@@ -53,8 +47,8 @@ fn not_opened(refusal: Refusal) -> Opened
 
 // The chain values of a frame's MIC ahead of each block of the frame.
 fn chains_of(schedule: &[u8; 176], frame: &[u8], counter: u32) -> [u8; 256]
-    requires { ⌜ (12 ≤ length (now frame)) × (length (now frame) ≤ 255) ⌝ }
-    ensures { λ r. ⌜ r ≡ chainsOf (now (schedule .entry)) (message (covered (now (frame .entry))) counter) (lastPlace (length (now (frame .entry)) - 4)) ⌝ }
+    requires { (12 ≤ length frame.now) × (length frame.now ≤ 255) }
+    ensures { result ≡ chainsOf schedule.now (message (covered frame.now) counter) (lastPlace (length frame.now - 4)) }
 {
     let n = frame.len() - MIC_LEN;
     let first = mic_block(&frame[..n], counter);
@@ -67,8 +61,8 @@ fn chains_of(schedule: &[u8; 176], frame: &[u8], counter: u32) -> [u8; 256]
 
 // A data frame whose counter is right: 5 where its MIC is not that of its chain values.
 fn open_checked(frame: &[u8], nwk_skey: [u8; 16], app_skey: [u8; 16], counter: u32) -> Opened
-    requires { ⌜ (12 ≤ length (now frame)) × (length (now frame) ≤ 255) ⌝ }
-    ensures { λ r. ⌜ r ≡ openChecked (now (frame .entry)) «nwk_skey» «app_skey» counter ⌝ }
+    requires { (12 ≤ length frame.now) × (length frame.now ≤ 255) }
+    ensures { result ≡ openChecked frame.now nwk_skey app_skey counter }
 {
     let nwk_schedule = aes::key_expansion::expand(nwk_skey);
     let chains = chains_of(&nwk_schedule, frame, counter);
@@ -103,7 +97,7 @@ fn open_checked(frame: &[u8], nwk_skey: [u8; 16], app_skey: [u8; 16], counter: u
 // Opens a data frame for amendments. Refused are what reading refuses, at its place, 4 for a frame of another type,
 // 14 where the counter's low half is not the frame's, and 5 where the MIC differs.
 pub fn open_frame(frame: &[u8], nwk_skey: [u8; 16], app_skey: [u8; 16], counter: u32) -> Opened
-    ensures { λ r. ⌜ r ≡ openOf (now (frame .entry)) «nwk_skey» «app_skey» counter ⌝ }
+    ensures { result ≡ openOf frame.now nwk_skey app_skey counter }
 {
     let reading = read(frame);
     let Reading::Data(data) = reading else {

@@ -1,18 +1,17 @@
 -- An open frame in a buffer of 868 bytes: the frame with the zeros behind it (255), its length (1), the schedule of the
 -- network key (176) and of the application key (176), the chain values (256) and the counter (4, low byte first).
 -- Every buffer holds some state, also one that no call made: its length has one byte, so that it is at most 255.
--- `loaded-stored` and `stored-loaded` in proofs/HeldUndone.antt say that the two definitions undo each other.
+-- `loaded-stored` and `stored_Loaded` in proofs/HeldUndone.antt say that the two definitions undo each other.
 -- Assumes nothing.
-use mathlib.Core.List.{List, [], _∷_, _++_}
-use Prim.Native.Nat.{ℕ, _%_}
-use Rattle·base.specs.Bytes.{at, part, fourBytes, fromFourBytes}
-use Rattle·amend.specs.declared.amending.Open.{Open}
-use Rattle·amend.specs.Amending.{openState}
+use Rattle.std.specs.Prelude.{List, [], ◌∷◌, ◌++◌, ℕ, ◌%◌}
+use Rattle.base.specs.Bytes.{at, part, fourBytes, fromFourBytes}
+use Rattle.amend.specs.declared.amending.Open.{Open}
+use Rattle.amend.specs.Amending.{openState}
 
 -- a state as a buffer holds it
 unfoldable pub storedOpen : Open → List ℕ
 storedOpen s =
-    s .frame ++ (s .length % 256) ∷ [] ++ s .«nwk_schedule» ++ s .«app_schedule» ++ s .chains ++ fourBytes (s .counter)
+    s.frame ++ (s.length % 256) ∷ [] ++ s.nwk_schedule ++ s.app_schedule ++ s.chains ++ fourBytes s.counter
 
 -- the state that a buffer holds
 unfoldable pub loadedOpen : List ℕ → Open

@@ -1,15 +1,10 @@
 // An open frame in a buffer of 868 bytes: its fields at fixed places.
-ghost use mathlib.Core.Path.{_≡_};
-ghost use mathlib.Core.List.{[], _∷_};
-ghost use Prim.Native.Nat.{_+_, _≤_};
-ghost use lib.ListN.{length};
-ghost use Rattle·base.specs.Bytes.{part, fromFourBytes};
-ghost use Rattle·amend_held·specs.specs.HeldBuffer.{storedOpen, loadedOpen};
+ghost use Rattle.std.specs.Prelude.{◌≡◌, [], ◌∷◌, ◌+◌, ◌≤◌, length};
+ghost use Rattle.base.specs.Bytes.{part, fromFourBytes};
+ghost use Rattle.amend_held.specs.HeldBuffer.{storedOpen, loadedOpen};
+
 use amend::amending::Open;
-use base::storing::four_at;
-use base::storing::four_bytes;
-use base::storing::put;
-use base::storing::wide;
+use base::storing::{four_at, four_bytes, put, wide};
 
 pub const HELD_LEN: usize = 868;
 
@@ -25,15 +20,15 @@ const COUNTER_AT: usize = 864;
 
 // The counter of its four bytes, low byte first.
 fn counter_from(a: u8, b: u8, c: u8, d: u8) -> u32
-    ensures { λ r. ⌜ r ≡ fromFourBytes (a ∷ b ∷ c ∷ d ∷ []) ⌝ }
+    ensures { result ≡ fromFourBytes (a ∷ b ∷ c ∷ d ∷ []) }
 {
     (a as u32) + (b as u32) * 256 + (c as u32) * 65536 + (d as u32) * 16777216
 }
 
 // The bytes of a field: the frame, a key schedule, the chain values.
 fn frame_from(bytes: &[u8]) -> [u8; 255]
-    requires { ⌜ 255 ≤ length (now bytes) ⌝ }
-    ensures { λ r. ⌜ r ≡ part 0 255 (now (bytes .entry)) ⌝ }
+    requires { 255 ≤ length bytes.now }
+    ensures { result ≡ part 0 255 bytes.now }
 {
     let mut field = [0u8; 255];
     put(&mut field, 0, &bytes[..255]);
@@ -41,8 +36,8 @@ fn frame_from(bytes: &[u8]) -> [u8; 255]
 }
 
 fn schedule_from(bytes: &[u8], from: usize) -> [u8; 176]
-    requires { ⌜ from + 176 ≤ length (now bytes) ⌝ }
-    ensures { λ r. ⌜ r ≡ part from 176 (now (bytes .entry)) ⌝ }
+    requires { from + 176 ≤ length bytes.now }
+    ensures { result ≡ part from 176 bytes.now }
 {
     let mut field = [0u8; 176];
     let end = from + 176;
@@ -51,8 +46,8 @@ fn schedule_from(bytes: &[u8], from: usize) -> [u8; 176]
 }
 
 fn chains_from(bytes: &[u8], from: usize) -> [u8; 256]
-    requires { ⌜ from + 256 ≤ length (now bytes) ⌝ }
-    ensures { λ r. ⌜ r ≡ part from 256 (now (bytes .entry)) ⌝ }
+    requires { from + 256 ≤ length bytes.now }
+    ensures { result ≡ part from 256 bytes.now }
 {
     let mut field = [0u8; 256];
     let end = from + 256;
@@ -62,7 +57,7 @@ fn chains_from(bytes: &[u8], from: usize) -> [u8; 256]
 
 // The state that a buffer holds.
 pub(crate) fn load(bytes: [u8; 868]) -> Open
-    ensures { λ r. ⌜ r ≡ loadedOpen bytes ⌝ }
+    ensures { result ≡ loadedOpen bytes }
 {
     let length = wide(bytes[LENGTH_AT]);
     let frame = frame_from(&bytes);
@@ -83,7 +78,7 @@ pub(crate) fn load(bytes: [u8; 868]) -> Open
 
 // A state as a buffer holds it.
 pub(crate) fn store(state: Open) -> [u8; 868]
-    ensures { λ r. ⌜ r ≡ storedOpen state ⌝ }
+    ensures { result ≡ storedOpen state }
 {
     let frame = state.frame;
     let nwk_schedule = state.nwk_schedule;

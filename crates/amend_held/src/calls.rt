@@ -1,24 +1,21 @@
 // The calls on a buffer that holds an open frame. Every buffer has a determined answer, also one that no call made; a refusal
 // changes no byte of it.
-ghost use mathlib.Core.Path.{_≡_};
-ghost use lib.ListN.{length};
-ghost use Rattle·amend.specs.Amending.{amendOf};
-ghost use Rattle·amend.specs.OpenFrame.{openOf};
-ghost use Rattle·amend.specs.SignedOnce.{amendListOf};
-ghost use Rattle·amend_held·specs.specs.HeldBuffer.{loadedOpen};
-ghost use Rattle·amend_held·specs.specs.HeldCalls.{settled, openedInto, amendedInto, takenOf, takenInto};
-use crate::buffer::LENGTH_AT;
-use crate::buffer::load;
-use crate::buffer::store;
+ghost use Rattle.std.specs.Prelude.{◌≡◌, length};
+ghost use Rattle.amend.specs.Amending.{amendOf};
+ghost use Rattle.amend.specs.OpenFrame.{openOf};
+ghost use Rattle.amend.specs.SignedOnce.{amendListOf};
+ghost use Rattle.amend_held.specs.HeldBuffer.{loadedOpen};
+ghost use Rattle.amend_held.specs.HeldCalls.{settled, openedInto, amendedInto, taken_of, takenInto};
+
+use crate::buffer::{LENGTH_AT, load, store};
 use amend::amending::Open;
 use amend::list::amend_list;
 use amend::opening::open_frame;
-use base::storing::put;
-use base::storing::wide;
-use frame::refusals::BUFFER_TOO_SHORT;
-use frame::refusals::Refusal;
+use base::storing::{put, wide};
+use frame::refusals::{BUFFER_TOO_SHORT, Refusal};
 
 // What taking the frame out gives: 0 and how many bytes it has, or a refusal.
+#[derive(Drop)]
 pub struct Taken {
     pub refusal: Refusal,
     pub length: usize,
@@ -26,7 +23,7 @@ pub struct Taken {
 
 // Stores a state where it is not refused.
 fn settle(refusal: Refusal, state: Open, buffer: &mut [u8; 868])
-    ensures { λ _. ⌜ now (buffer .exit) ≡ settled refusal state (now (buffer .entry)) ⌝ }
+    ensures { buffer.new ≡ settled refusal state buffer.old }
 {
     if refusal.number == 0 {
         let bytes = store(state);
@@ -42,10 +39,9 @@ pub fn open_into(
     counter: u32,
     buffer: &mut [u8; 868],
 ) -> Refusal
-    ensures { λ r. ⌜ r ≡ openOf (now (frame .entry)) «nwk_skey» «app_skey» counter .refusal ⌝ }
-    ensures { λ _.
-        ⌜ now (buffer .exit)
-        ≡ openedInto (openOf (now (frame .entry)) «nwk_skey» «app_skey» counter) (now (buffer .entry)) ⌝ }
+    ensures value { result ≡ (openOf frame.now nwk_skey app_skey counter).refusal }
+    ensures buffer_after { buffer.new
+        ≡ openedInto (openOf frame.now nwk_skey app_skey counter) buffer.old }
 {
     let opening = open_frame(frame, nwk_skey, app_skey, counter);
     let refusal = opening.refusal;
@@ -56,9 +52,8 @@ pub fn open_into(
 
 // Sets one payload byte of the frame that a buffer holds; 15 where there is no such byte.
 pub fn amend_held(buffer: &mut [u8; 868], offset: usize, value: u8) -> Refusal
-    ensures { λ r. ⌜ r ≡ amendOf (loadedOpen (now (buffer .entry))) offset value .refusal ⌝ }
-    ensures { λ _.
-        ⌜ now (buffer .exit) ≡ amendedInto (amendOf (loadedOpen (now (buffer .entry))) offset value) (now (buffer .entry)) ⌝ }
+    ensures value { result ≡ (amendOf (loadedOpen buffer.old) offset value).refusal }
+    ensures buffer_after { buffer.new ≡ amendedInto (amendOf (loadedOpen buffer.old) offset value) buffer.old }
 {
     let bytes = *buffer;
     let next = load(bytes).amend(offset, value);
@@ -70,10 +65,9 @@ pub fn amend_held(buffer: &mut [u8; 868], offset: usize, value: u8) -> Refusal
 
 // The same with a list of amendments, each a number offset * 256 + value; where any is refused, none is made.
 pub fn amend_list_held(buffer: &mut [u8; 868], amendments: &[u32]) -> Refusal
-    ensures { λ r. ⌜ r ≡ amendListOf (loadedOpen (now (buffer .entry))) (now (amendments .entry)) .refusal ⌝ }
-    ensures { λ _.
-        ⌜ now (buffer .exit)
-        ≡ amendedInto (amendListOf (loadedOpen (now (buffer .entry))) (now (amendments .entry))) (now (buffer .entry)) ⌝ }
+    ensures value { result ≡ (amendListOf (loadedOpen buffer.old) amendments.now).refusal }
+    ensures buffer_after { buffer.new
+        ≡ amendedInto (amendListOf (loadedOpen buffer.old) amendments.now) buffer.old }
 {
     let bytes = *buffer;
     let next = amend_list(load(bytes), amendments);
@@ -84,8 +78,8 @@ pub fn amend_list_held(buffer: &mut [u8; 868], amendments: &[u32]) -> Refusal
 }
 
 fn copy_out(bytes: [u8; 868], out: &mut [u8]) -> Taken
-    ensures { λ r. ⌜ r ≡ takenOf (loadedOpen bytes) (length (now (out .entry))) ⌝ }
-    ensures { λ _. ⌜ now (out .exit) ≡ takenInto (loadedOpen bytes) (now (out .entry)) ⌝ }
+    ensures value { result ≡ taken_of (loadedOpen bytes) (length out.old) }
+    ensures out_after { out.new ≡ takenInto (loadedOpen bytes) out.old }
 {
     let n = wide(bytes[LENGTH_AT]);
     if out.len() < n {
@@ -109,8 +103,8 @@ fn copy_out(bytes: [u8; 868], out: &mut [u8]) -> Taken
 
 // Copies the frame that a buffer holds to the start of `out`; 7 where it does not fit.
 pub fn frame_of(buffer: &[u8; 868], out: &mut [u8]) -> Taken
-    ensures { λ r. ⌜ r ≡ takenOf (loadedOpen (now (buffer .entry))) (length (now (out .entry))) ⌝ }
-    ensures { λ _. ⌜ now (out .exit) ≡ takenInto (loadedOpen (now (buffer .entry))) (now (out .entry)) ⌝ }
+    ensures value { result ≡ taken_of (loadedOpen buffer.now) (length out.old) }
+    ensures out_after { out.new ≡ takenInto (loadedOpen buffer.now) out.old }
 {
     let bytes = *buffer;
     copy_out(bytes, out)

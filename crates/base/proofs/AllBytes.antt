@@ -2,10 +2,10 @@
 -- Assumes nothing.
 use mathlib.Core.Bool.{Bool, true, false}
 use mathlib.Core.List.{List}
-use Prim.Native.Nat.{ℕ, _<_}
+use Prim.Native.Nat.{ℕ, ◌<◌}
 use native.Mathlib.Omega.{arith}
-use Rattle·base·specs.specs.Bytes.{pick, tab, AreBytes}
-use Rattle·base·proofs.proofs.Tab.{tab-all}
+use Rattle.base.specs.Bytes.{pick, tab, AreBytes}
+use Rattle.base.proofs.Tab.{tab-all}
 
 pub pick-bytes : (b : Bool) (s t : List ℕ) → AreBytes s → AreBytes t → AreBytes (pick b s t)
 pick-bytes true s t hs ht = hs

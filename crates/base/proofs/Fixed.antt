@@ -1,7 +1,7 @@
 -- That a promise fixes the outcome of its call: two outcomes that satisfy it at the same arguments are equal. Said once,
 -- of a contract as it is generated; the crate `theorems` has an instance for each public call.
 -- Assumes nothing.
-use mathlib.Core.Path.{_≡_}
+use mathlib.Core.Path.{◌≡◌}
 use mathlib.Core.List.{List}
 use Prim.Native.Nat.{ℕ}
 

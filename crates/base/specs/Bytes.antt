@@ -1,11 +1,8 @@
 -- Bytes and strings of bytes, as the definitions of every layer speak of them: a choice, a list given by what stands
 -- at each index, the byte at an index, numbers of four bytes, and exclusive or.
 -- Assumes nothing.
-use mathlib.Core.Bool.{Bool, true, false}
-use mathlib.Core.List.{List, [], _∷_}
-use Prim.Native.Nat.{ℕ, zero, suc, _+_, _*_, _/_, _%_, _<_}
-use lib.ListN.{getD, take, drop, replicate}
-use lib.Bits.{bitXor}
+use Rattle.std.specs.Prelude.{Bool, true, false, List, [], ◌∷◌, ℕ, zero, suc, ◌+◌, ◌*◌, ◌/◌, ◌%◌, ◌<◌, get_or, take, drop, replicate}
+use Rattle.std.specs.Int.Bits.{bit_xor}
 
 -- the first where the test holds, the second where it does not
 abbrev pub pick : {A : Type 0} → Bool → A → A → A
@@ -19,7 +16,7 @@ tab (suc n) f = f 0 ∷ tab n (λ (i : ℕ). f (suc i))
 
 -- what stands at index i, and 0 past the end
 abbrev pub at : List ℕ → ℕ → ℕ
-at s i = getD s i 0
+at s i = get_or s i 0
 
 -- the n bytes from index i on
 abbrev pub part : ℕ → ℕ → List ℕ → List ℕ
@@ -36,10 +33,10 @@ fromFourBytes s = at s 0 + at s 1 * 256 + at s 2 * 65536 + at s 3 * 16777216
 abbrev pub zeros : ℕ → List ℕ
 zeros n = replicate n 0
 
-infixl 60 _⊕_
+infixl 60 ◌⊕◌
 -- exclusive or of two numbers, bit by bit
-abbrev pub _⊕_ : ℕ → ℕ → ℕ
-_⊕_ = bitXor
+abbrev pub ◌⊕◌ : ℕ → ℕ → ℕ
+◌⊕◌ = bit_xor
 
 -- exclusive or of two strings, byte by byte; the shorter counts as filled up with zeros
 unfoldable pub xorL : List ℕ → List ℕ → List ℕ

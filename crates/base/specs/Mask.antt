@@ -1,9 +1,7 @@
 -- A string of bytes under a mask that is given by index, as a key stream is.
 -- Assumes nothing.
-use mathlib.Core.List.{List}
-use Prim.Native.Nat.{ℕ}
-use lib.ListN.{length}
-use Rattle·base·specs.specs.Bytes.{tab, at, _⊕_}
+use Rattle.std.specs.Prelude.{List, ℕ, length}
+use Rattle.base.specs.Bytes.{tab, at, ◌⊕◌}
 
 -- each byte exclusive-or what the mask has at its index
 unfoldable pub masked : List ℕ → (ℕ → ℕ) → List ℕ

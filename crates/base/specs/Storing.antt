@@ -1,13 +1,9 @@
 -- Runs of bytes that are stored into a string from a place on, and that are taken out of one. What is said of a stored run
 -- and of one that is taken holds of every place, also one outside the string.
 -- Assumes nothing.
-use mathlib.Core.Path.{_≡_}
-use mathlib.Core.List.{List}
-use Prim.Native.Nat.{ℕ, _+_, _-_, min}
-use lib.Dec.{leb}
-use lib.ListN.{length}
-use lib.Seq.{sets}
-use Rattle·base·specs.specs.Bytes.{pick, part, zeros}
+use Rattle.std.specs.Prelude.{◌≡◌, List, ℕ, ◌+◌, ◌-◌, min, leb, length}
+use Rattle.std.proofs.lemmas.List.Edits.{sets}
+use Rattle.base.specs.Bytes.{pick, part, zeros}
 
 -- t is stored into l from place i on, which gives e; r is the place past it. It says so of a run that lies inside.
 pub record Put (l : List ℕ) (i : ℕ) (t : List ℕ) (r : ℕ) (e : List ℕ) : Type 0 where
@@ -21,5 +17,5 @@ pub record Stored (l : List ℕ) (i : ℕ) (s : List ℕ) (r : ℕ) (e : List �
   pub list : e ≡ sets l i s
 
 -- n bytes from place i on, or zeros where they do not all lie inside
-unfoldable pub runAt : ℕ → List ℕ → ℕ → List ℕ
-runAt n l i = pick (leb (i + n) (length l)) (part i n l) (zeros n)
+unfoldable pub run_at : ℕ → List ℕ → ℕ → List ℕ
+run_at n l i = pick (leb (i + n) (length l)) (part i n l) (zeros n)

@@ -1,15 +1,12 @@
 // Runs of bytes that every layer above stores and takes out of byte strings. All are total: what lies outside is not
 // written, and a run that does not lie inside is taken as zeros.
-ghost use mathlib.Core.Path.{_≡_};
-ghost use Prim.Native.Nat.{_+_, _≤_};
-ghost use lib.Dec.{ltb};
-ghost use lib.ListN.{length, take};
-ghost use Rattle·base·specs.specs.Bytes.{at, part, fourBytes};
-ghost use Rattle·base·specs.specs.Storing.{Put, Stored, runAt};
+ghost use Rattle.std.specs.Prelude.{◌≡◌, ◌+◌, ◌≤◌, ltb, length, take};
+ghost use Rattle.base.specs.Bytes.{at, part, fourBytes};
+ghost use Rattle.base.specs.Storing.{Put, Stored, run_at};
 
 // Whether any of `count` bytes from `at` on lies outside `total`.
 fn outside(total: usize, at: usize, count: usize) -> bool
-    ensures { λ r. ⌜ r ≡ ltb total (at + count) ⌝ }
+    ensures { result ≡ ltb total (at + count) }
 {
     if total < count {
         return true;
@@ -22,8 +19,8 @@ fn outside(total: usize, at: usize, count: usize) -> bool
 
 // The first `n` bytes of `src`, stored from `at` on; answers the place past them.
 fn store(out: &mut [u8], at: usize, src: &[u8], n: usize) -> usize
-    requires { ⌜ (n ≤ length (now src)) × (at + n ≤ length (now out)) ⌝ }
-    ensures { λ r. ⌜ Put (now (out .entry)) at (take n (now (src .entry))) r (now (out .exit)) ⌝ }
+    requires { (n ≤ length src.now) × (at + n ≤ length out.old) }
+    ensures { Put out.old at (take n src.now) result out.new }
 {
     let mut i: usize = 0;
     while i < n {
@@ -35,7 +32,7 @@ fn store(out: &mut [u8], at: usize, src: &[u8], n: usize) -> usize
 
 // Stores the bytes of `src` from `at` on, as many as there is room for, and answers the place past them.
 pub fn put(out: &mut [u8], at: usize, src: &[u8]) -> usize
-    ensures { λ r. ⌜ Stored (now (out .entry)) at (now (src .entry)) r (now (out .exit)) ⌝ }
+    ensures { Stored out.old at src.now result out.new }
 {
     if outside(out.len(), at, src.len()) {
         if out.len() <= at {
@@ -48,7 +45,7 @@ pub fn put(out: &mut [u8], at: usize, src: &[u8]) -> usize
 
 // The byte at an index, and 0 past the end.
 pub fn byte_at(bytes: &[u8], i: usize) -> u8
-    ensures { λ r. ⌜ r ≡ at (now (bytes .entry)) i ⌝ }
+    ensures { result ≡ at bytes.now i }
 {
     if i < bytes.len() {
         return bytes[i];
@@ -58,14 +55,14 @@ pub fn byte_at(bytes: &[u8], i: usize) -> u8
 
 // A byte as a place.
 pub fn wide(b: u8) -> usize
-    ensures { λ r. ⌜ r ≡ b ⌝ }
+    ensures { result ≡ b }
 {
     b as usize
 }
 
 // A number in four bytes, low byte first.
 pub fn four_bytes(n: u32) -> [u8; 4]
-    ensures { λ r. ⌜ r ≡ fourBytes n ⌝ }
+    ensures { result ≡ fourBytes n }
 {
     [
         (n % 256) as u8,
@@ -76,15 +73,15 @@ pub fn four_bytes(n: u32) -> [u8; 4]
 }
 
 fn three_from(bytes: &[u8], from: usize) -> [u8; 3]
-    requires { ⌜ from + 3 ≤ length (now bytes) ⌝ }
-    ensures { λ r. ⌜ r ≡ part from 3 (now (bytes .entry)) ⌝ }
+    requires { from + 3 ≤ length bytes.now }
+    ensures { result ≡ part from 3 bytes.now }
 {
     [bytes[from], bytes[from + 1], bytes[from + 2]]
 }
 
 // The three bytes from `at` on; zeros where there are not so many.
 pub fn three_at(bytes: &[u8], at: usize) -> [u8; 3]
-    ensures { λ r. ⌜ r ≡ runAt 3 (now (bytes .entry)) at ⌝ }
+    ensures { result ≡ run_at 3 bytes.now at }
 {
     if outside(bytes.len(), at, 3) {
         return [0u8; 3];
@@ -93,8 +90,8 @@ pub fn three_at(bytes: &[u8], at: usize) -> [u8; 3]
 }
 
 fn four_from(bytes: &[u8], from: usize) -> [u8; 4]
-    requires { ⌜ from + 4 ≤ length (now bytes) ⌝ }
-    ensures { λ r. ⌜ r ≡ part from 4 (now (bytes .entry)) ⌝ }
+    requires { from + 4 ≤ length bytes.now }
+    ensures { result ≡ part from 4 bytes.now }
 {
     [
         bytes[from],
@@ -106,7 +103,7 @@ fn four_from(bytes: &[u8], from: usize) -> [u8; 4]
 
 // The four bytes from `at` on; zeros where there are not so many.
 pub fn four_at(bytes: &[u8], at: usize) -> [u8; 4]
-    ensures { λ r. ⌜ r ≡ runAt 4 (now (bytes .entry)) at ⌝ }
+    ensures { result ≡ run_at 4 bytes.now at }
 {
     if outside(bytes.len(), at, 4) {
         return [0u8; 4];
@@ -116,7 +113,7 @@ pub fn four_at(bytes: &[u8], at: usize) -> [u8; 4]
 
 // The sixteen bytes from `at` on; zeros where there are not so many.
 pub fn block_at(bytes: &[u8], at: usize) -> [u8; 16]
-    ensures { λ r. ⌜ r ≡ runAt 16 (now (bytes .entry)) at ⌝ }
+    ensures { result ≡ run_at 16 bytes.now at }
 {
     let mut r = [0u8; 16];
     if outside(bytes.len(), at, 16) {

@@ -1,7 +1,6 @@
 // A piece of work for bench/ to count and time, which the first letter of standard input names. What comes of it is written
 // as a line of hex.
-use libc::STDIN_FILENO;
-use libc::STDOUT_FILENO;
+use libc::{STDIN_FILENO, STDOUT_FILENO};
 
 mod blocks;
 mod frames;

@@ -2,29 +2,29 @@
 -- value, and that the running state gives the tag however the message is cut. A state that took in m holds the chain
 -- value before m's last block, with that block in it; one byte more keeps this so, whether the block was full or not.
 -- Assumes nothing.
-use mathlib.Core.Path.{_≡_, refl, sym, ap, ap₂, _∙_}
-use mathlib.Core.List.{List, [], _∷_, _++_, append-nil, append-assoc}
-use Prim.Native.Nat.{ℕ, zero, suc, _+_, _*_, _-_, _≤_, _<_}
+use mathlib.Core.Path.{◌≡◌, refl, sym, ap, ap₂, ◌∙◌}
+use mathlib.Core.List.{List, [], ◌∷◌, ◌++◌, append-nil, append_assoc}
+use Prim.Native.Nat.{ℕ, zero, suc, ◌+◌, ◌*◌, ◌-◌, ◌≤◌, ◌<◌}
 use native.Mathlib.Omega.{arith}
 use lib.ListN.{length, take, drop, replicate, length-append, length-drop, take-append-drop}
-use lib.Seq.{take-append-le, drop-append-le, drop-at, take-all, drop-cons, drop-length, length-take-le}
+use lib.Seq.{take-append-le, drop-append-le, drop_at, take_all, drop-cons, drop-length, length-take-le}
 use lib.Dec.{ltb}
 use borrow.Author.Tests.{lt-ltb, le-ltb, ltb-true, ltb-false}
-use Rattle·base.specs.Bytes.{at, part, xorL, AreBytes}
-use Rattle·base.proofs.Xor.{xorL-nil, xorL-snoc, xorL-assoc}
-use Rattle·base.proofs.Parts.{part-take, bytes-drop, bytes-part, bytes-xorL, bytes-append, bytes-cons, bytes-replicate, xorL-zeros}
-use Rattle·base.proofs.Tested.{by-test}
-use Rattle·aes.specs.KeyExpansion.{keyExpansion}
-use Rattle·aes.specs.Fips197.{cipher}
-use Rattle·aes.proofs.ExpansionLaws.{schedule-byte}
-use Rattle·aes.proofs.CipherLaws.{cipher-long, cipher-byte}
-use Rattle·cmac·specs.specs.declared.Cmac.{Cmac}
-use Rattle·cmac·specs.specs.Doubling.{constZero}
-use Rattle·cmac·specs.specs.LastBlock.{mixed}
-use Rattle·cmac·proofs.proofs.DoublingLaws.{picked}
-use Rattle·cmac·specs.specs.Rfc4493.{subkey1, subkey2, chain, ahead, padded, mLast, closed, tag, mac}
-use Rattle·cmac·specs.specs.Running.{running, resumed, started, pushed, absorbed, absorbedAll, joined, finished}
-use Rattle·cmac·proofs.proofs.Subkeys.{subkey1-byte, subkey2-byte}
+use Rattle.base.specs.Bytes.{at, part, xorL, AreBytes}
+use Rattle.base.proofs.Xor.{xorL-nil, xorL-snoc, xorL-assoc}
+use Rattle.base.proofs.Parts.{part-take, bytes_drop, bytes-part, bytes-xorL, bytes-append, bytes-cons, bytes-replicate, xorL-zeros}
+use Rattle.base.proofs.Tested.{by-test}
+use Rattle.aes.specs.KeyExpansion.{keyExpansion}
+use Rattle.aes.specs.Fips197.{cipher}
+use Rattle.aes.proofs.ExpansionLaws.{schedule-byte}
+use Rattle.aes.proofs.CipherLaws.{cipher-long, cipher-byte}
+use Rattle.cmac.specs.declared.Cmac.{Cmac}
+use Rattle.cmac.specs.Doubling.{constZero}
+use Rattle.cmac.specs.LastBlock.{mixed}
+use Rattle.cmac.proofs.DoublingLaws.{picked}
+use Rattle.cmac.specs.Rfc4493.{subkey1, subkey2, chain, ahead, padded, mLast, closed, tag, mac}
+use Rattle.cmac.specs.Running.{running, resumed, started, pushed, absorbed, absorbedAll, joined, finished}
+use Rattle.cmac.proofs.Subkeys.{subkey1-byte, subkey2-byte}
 
 -- ---- chain values
 
@@ -57,13 +57,13 @@ chain-take ks m i (suc j) h =
     (part-take (16 * j) 16 (16 * i) m (omega arith))
 
 -- two messages that agree in their first i blocks have the same chain values up to i
-pub chain-same : (ks m m′ : List ℕ) (i : ℕ) → take (16 * i) m ≡ take (16 * i) m′ → (j : ℕ) → j ≤ i → chain ks m j ≡ chain ks m′ j
-chain-same ks m m′ i e j h =
-    sym (chain-take ks m i j h) ∙ ap (λ (l : List ℕ). chain ks l j) e ∙ chain-take ks m′ i j h
+pub chain_same : (ks m m' : List ℕ) (i : ℕ) → take (16 * i) m ≡ take (16 * i) m' → (j : ℕ) → j ≤ i → chain ks m j ≡ chain ks m' j
+chain_same ks m m' i e j h =
+    sym (chain-take ks m i j h) ∙ ap (λ (l : List ℕ). chain ks l j) e ∙ chain-take ks m' i j h
 
 -- what stands behind the first i blocks does not matter
 pub chain-append : (ks m p : List ℕ) (i : ℕ) → 16 * i ≤ length m → chain ks (m ++ p) i ≡ chain ks m i
-chain-append ks m p i h = chain-same ks (m ++ p) m i (take-append-le (16 * i) m p h) i (omega arith)
+chain-append ks m p i h = chain_same ks (m ++ p) m i (take-append-le (16 * i) m p h) i (omega arith)
 
 -- ---- the tag
 
@@ -90,9 +90,9 @@ padded-byte x h =
     bytes-append x (0x80 ∷ replicate (15 - length x) 0) h
     (bytes-cons 0x80 (replicate (15 - length x) 0) (omega arith) (bytes-replicate (15 - length x) 0 (omega arith)))
 
-last-byte : (ks x : List ℕ) → AreBytes ks → AreBytes x → AreBytes (mLast ks x)
+last_byte : (ks x : List ℕ) → AreBytes ks → AreBytes x → AreBytes (mLast ks x)
 unfolding mLast
-last-byte ks x hk h =
+last_byte ks x hk h =
     picked AreBytes (ltb (length x) 16) (xorL (padded x) (subkey2 ks)) (xorL x (subkey1 ks))
     (bytes-xorL (padded x) (subkey2 ks) (padded-byte x h) (subkey2-byte ks hk))
     (bytes-xorL x (subkey1 ks) h (subkey1-byte ks hk))
@@ -100,7 +100,7 @@ last-byte ks x hk h =
 pub closed-byte : (ks x last : List ℕ) → AreBytes ks → AreBytes x → AreBytes last → AreBytes (closed ks x last)
 unfolding closed
 closed-byte ks x last hk hx h =
-    cipher-byte ks (xorL x (mLast ks last)) hk (bytes-xorL x (mLast ks last) hx (last-byte ks last hk h))
+    cipher-byte ks (xorL x (mLast ks last)) hk (bytes-xorL x (mLast ks last) hx (last_byte ks last hk h))
 
 pub tag-long : (ks m : List ℕ) → length (tag ks m) ≡ 16
 unfolding tag
@@ -110,7 +110,7 @@ pub tag-byte : (ks m : List ℕ) → AreBytes ks → AreBytes m → AreBytes (ta
 unfolding tag
 tag-byte ks m hk hm =
     closed-byte ks (chain ks m (ahead m)) (drop (16 * ahead m) m) hk (chain-byte ks m hk hm (ahead m))
-    (bytes-drop (16 * ahead m) m hm)
+    (bytes_drop (16 * ahead m) m hm)
 
 pub mac-long : (key m : List ℕ) → length (mac key m) ≡ 16
 unfolding mac
@@ -126,8 +126,8 @@ mac-byte key m hk hm = tag-byte (keyExpansion key) m (schedule-byte key hk) hm
 abbrev held : List ℕ → List ℕ → ℕ → Cmac
 held ks m n = running ks (xorL (chain ks m n) (drop (16 * n) m)) (length m - 16 * n)
 
-abbrev stateOf : List ℕ → List ℕ → Cmac
-stateOf ks m = held ks m (ahead m)
+abbrev state_of : List ℕ → List ℕ → Cmac
+state_of ks m = held ks m (ahead m)
 
 -- one byte more, put into a block at its end
 pub mixed-snoc : (x d : List ℕ) (n b : ℕ) → length d ≡ n → n < length x → mixed (xorL x d) n b ≡ xorL x (d ++ b ∷ [])
@@ -153,7 +153,7 @@ chain-whole : (ks m : List ℕ) (n : ℕ) → length m ≡ 16 * n + 16
 chain-whole ks m n e =
     chain-suc ks m n
     ∙ ap (λ (l : List ℕ). cipher ks (xorL (chain ks m n) l))
-    (take-all 16 (drop (16 * n) m) (omega (arith, length-drop (16 * n) m)))
+    (take_all 16 (drop (16 * n) m) (omega (arith, length-drop (16 * n) m)))
 
 push-full : (ks m : List ℕ) (n b : ℕ) → length m ≡ 16 * n + 16 → pushed (held ks m n) b ≡ held ks (m ++ b ∷ []) (suc n)
 unfolding pushed
@@ -164,12 +164,12 @@ push-full ks m n b e =
     ap (λ (l : List ℕ). mixed l 0 b) (sym (xorL-nil y))
     ∙ mixed-snoc y [] 0 b refl (omega (arith, cipher-long ks (xorL (chain ks m n) (drop (16 * n) m))))
     ∙ ap₂ xorL (sym (chain-append ks m (b ∷ []) (suc n) (omega arith) ∙ chain-whole ks m n e))
-    (sym (drop-at m (b ∷ []) (16 * suc n) (omega arith))) in
+    (sym (drop_at m (b ∷ []) (16 * suc n) (omega arith))) in
     simp (le-ltb (length m - 16 * n) 16 full)
     (ap₂ (running ks) more (omega (arith, length-append m (b ∷ []))))
 
 push : (ks m : List ℕ) (n b : ℕ) → 16 * n ≤ length m → length m ≤ 16 * n + 16
-    → pushed (held ks m n) b ≡ stateOf ks (m ++ b ∷ [])
+    → pushed (held ks m n) b ≡ state_of ks (m ++ b ∷ [])
 push ks m n b h k =
     by-test (ltb (length m) (16 * n + 16))
     (λ t.
@@ -181,30 +181,30 @@ push ks m n b h k =
     push-full ks m n b (omega arith)
     ∙ ap (held ks (m ++ b ∷ [])) (sym (ahead-is (m ++ b ∷ []) (suc n) (omega (arith, length-append m (b ∷ []))) (omega (arith, length-append m (b ∷ []))))))
 
-absorb : (ks m p : List ℕ) → absorbed (stateOf ks m) p ≡ stateOf ks (m ++ p)
+absorb : (ks m p : List ℕ) → absorbed (state_of ks m) p ≡ state_of ks (m ++ p)
 unfolding absorbed
-absorb ks m [] = ap (stateOf ks) (sym (append-nil m))
+absorb ks m [] = ap (state_of ks) (sym (append-nil m))
 absorb ks m (b ∷ p) =
     ap (λ (s : Cmac). absorbed s p) (push ks m (ahead m) b (ahead-low m) (ahead-high m))
     ∙ absorb ks (m ++ b ∷ []) p
-    ∙ ap (stateOf ks) (append-assoc m (b ∷ []) p)
+    ∙ ap (state_of ks) (append_assoc m (b ∷ []) p)
 
 -- the same from a block's edge, whether the block before it is enciphered or not, if a byte comes
 absorb-from : (ks m p : List ℕ) (n b : ℕ) → 16 * n ≤ length m → length m ≤ 16 * n + 16
-    → absorbed (held ks m n) (b ∷ p) ≡ stateOf ks (m ++ b ∷ p)
+    → absorbed (held ks m n) (b ∷ p) ≡ state_of ks (m ++ b ∷ p)
 unfolding absorbed
 absorb-from ks m p n b h k =
     ap (λ (s : Cmac). absorbed s p) (push ks m n b h k)
     ∙ absorb ks (m ++ b ∷ []) p
-    ∙ ap (stateOf ks) (append-assoc m (b ∷ []) p)
+    ∙ ap (state_of ks) (append_assoc m (b ∷ []) p)
 
-absorb-all : (ks m : List ℕ) (ps : List (List ℕ)) → absorbedAll (stateOf ks m) ps ≡ stateOf ks (m ++ joined ps)
+absorb-all : (ks m : List ℕ) (ps : List (List ℕ)) → absorbedAll (state_of ks m) ps ≡ state_of ks (m ++ joined ps)
 unfolding absorbedAll joined
-absorb-all ks m [] = ap (stateOf ks) (sym (append-nil m))
+absorb-all ks m [] = ap (state_of ks) (sym (append-nil m))
 absorb-all ks m (p ∷ ps) =
     ap (λ (s : Cmac). absorbedAll s ps) (absorb ks m p)
     ∙ absorb-all ks (m ++ p) ps
-    ∙ ap (stateOf ks) (append-assoc m p (joined ps))
+    ∙ ap (state_of ks) (append_assoc m p (joined ps))
 
 -- a short last block: its one bit, the zeros and the second subkey
 close-short : (ks x d : List ℕ) (n : ℕ) → length x ≡ 16 → length d ≡ n → n < 16
@@ -216,7 +216,7 @@ close-short ks x d n lx ld h =
     let marked : mixed (xorL x d) n 0x80 ≡ xorL x (d ++ 0x80 ∷ replicate (15 - length d) 0) =
     mixed-snoc x d n 0x80 ld (omega arith)
     ∙ sym (xorL-zeros x (d ++ 0x80 ∷ []) (15 - length d) (omega arith))
-    ∙ ap (xorL x) (append-assoc d (0x80 ∷ []) (replicate (15 - length d) 0)) in
+    ∙ ap (xorL x) (append_assoc d (0x80 ∷ []) (replicate (15 - length d) 0)) in
     simp (lt-ltb n 16 h, lt-ltb (length d) 16 short)
     (ap (λ (l : List ℕ). cipher ks (xorL l (subkey2 ks))) marked
     ∙ ap (cipher ks) (xorL-assoc x (d ++ 0x80 ∷ replicate (15 - length d) 0) (subkey2 ks)))
@@ -232,13 +232,13 @@ close : (ks x d : List ℕ) (n : ℕ) → length x ≡ 16 → length d ≡ n →
 close ks x d n lx ld =
     by-test (ltb n 16) (λ t. close-short ks x d n lx ld (ltb-true n 16 t)) (λ f. close-full ks x d n ld (ltb-false n 16 f))
 
-finish-tag : (ks m : List ℕ) → finished (stateOf ks m) ≡ tag ks m
+finish-tag : (ks m : List ℕ) → finished (state_of ks m) ≡ tag ks m
 unfolding tag
 finish-tag ks m =
     close ks (chain ks m (ahead m)) (drop (16 * ahead m) m) (length m - 16 * ahead m) (chain-long ks m (ahead m))
     (length-drop (16 * ahead m) m)
 
-start-state : (ks : List ℕ) → started ks ≡ stateOf ks []
+start-state : (ks : List ℕ) → started ks ≡ state_of ks []
 unfolding chain ahead
 start-state ks = ap (resumed ks) (sym (xorL-nil constZero))
 

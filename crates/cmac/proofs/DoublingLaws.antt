@@ -1,19 +1,19 @@
 -- A doubled block is sixteen bytes: a shifted byte is an even number below 256 and at most one more. The exclusive or with
 -- the constant changes the last byte alone.
 -- Assumes nothing.
-use mathlib.Core.Path.{_≡_, ap, _∙_}
+use mathlib.Core.Path.{◌≡◌, ap, ◌∙◌}
 use mathlib.Core.Bool.{Bool, true, false}
-use mathlib.Core.List.{List, [], _∷_}
-use Prim.Native.Nat.{ℕ, _+_, _<_, _≤_}
+use mathlib.Core.List.{List, [], ◌∷◌}
+use Prim.Native.Nat.{ℕ, ◌+◌, ◌<◌, ◌≤◌}
 use native.Mathlib.Omega.{arith}
 use lib.ListN.{length, replicate, set}
 use lib.Dec.{ltb}
 use borrow.Author.Tests.{lt-ltb, le-ltb}
-use Rattle·base.specs.Bytes.{pick, at, _⊕_, xorL, AreBytes}
-use Rattle·base.proofs.Tab.{length-tab, tab-all}
-use Rattle·base.proofs.Parts.{bytes-xorL, bytes-replicate, bytes-append, bytes-cons, bytes-nil, xorL-zeros}
-use Rattle·base.proofs.Xor.{xorL-nil, xorL-snoc}
-use Rattle·cmac·specs.specs.Doubling.{constRb, shiftedAt, shifted, doubled}
+use Rattle.base.specs.Bytes.{pick, at, ◌⊕◌, xorL, AreBytes}
+use Rattle.base.proofs.Tab.{length-tab, tab-all}
+use Rattle.base.proofs.Parts.{bytes-xorL, bytes-replicate, bytes-append, bytes-cons, bytes-nil, xorL-zeros}
+use Rattle.base.proofs.Xor.{xorL-nil, xorL-snoc}
+use Rattle.cmac.specs.Doubling.{constRb, shiftedAt, shifted, doubled}
 
 -- what both of two have, the one picked has
 pub picked : (P : List ℕ → Type 0) (b : Bool) (s t : List ℕ) → P s → P t → P (pick b s t)

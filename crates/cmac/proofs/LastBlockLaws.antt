@@ -1,12 +1,12 @@
 -- The two ways in which the last block ends.
 -- Assumes nothing.
-use mathlib.Core.Path.{_≡_}
+use mathlib.Core.Path.{◌≡◌}
 use mathlib.Core.List.{List}
-use Prim.Native.Nat.{ℕ, _≤_, _<_}
+use Prim.Native.Nat.{ℕ, ◌≤◌, ◌<◌}
 use borrow.Author.Tests.{lt-ltb, le-ltb}
-use Rattle·base.specs.Bytes.{xorL}
-use Rattle·cmac·specs.specs.Doubling.{doubled}
-use Rattle·cmac·specs.specs.LastBlock.{mixed, ended}
+use Rattle.base.specs.Bytes.{xorL}
+use Rattle.cmac.specs.Doubling.{doubled}
+use Rattle.cmac.specs.LastBlock.{mixed, ended}
 
 pub ended-open : (l x : List ℕ) (n : ℕ) → n < 16 → xorL (mixed x n 0x80) (doubled (doubled l)) ≡ ended l x n
 ended-open l x n h = simp (lt-ltb n 16 h)

@@ -3,13 +3,13 @@
 use mathlib.Core.List.{List}
 use Prim.Native.Nat.{ℕ}
 use native.Mathlib.Omega.{arith}
-use Rattle·base.specs.Bytes.{AreBytes}
-use Rattle·base.proofs.Parts.{bytes-replicate}
-use Rattle·cmac·specs.specs.Doubling.{constZero}
-use Rattle·cmac·proofs.proofs.DoublingLaws.{doubled-byte}
-use Rattle·aes.specs.Fips197.{cipher}
-use Rattle·aes.proofs.CipherLaws.{cipher-byte}
-use Rattle·cmac·specs.specs.Rfc4493.{subkey1, subkey2}
+use Rattle.base.specs.Bytes.{AreBytes}
+use Rattle.base.proofs.Parts.{bytes-replicate}
+use Rattle.cmac.specs.Doubling.{constZero}
+use Rattle.cmac.proofs.DoublingLaws.{doubled-byte}
+use Rattle.aes.specs.Fips197.{cipher}
+use Rattle.aes.proofs.CipherLaws.{cipher-byte}
+use Rattle.cmac.specs.Rfc4493.{subkey1, subkey2}
 
 zeros-byte : AreBytes constZero
 zeros-byte = bytes-replicate 16 0 (omega arith)

@@ -1,22 +1,22 @@
 -- One turn of `update`, whichever arm it takes: what is still to be taken in gives the same. A byte goes into the open
 -- block; behind a full block a byte or a whole block goes into the next one, after the full one is enciphered.
 -- Assumes nothing.
-use mathlib.Core.Path.{_≡_, refl, sym, ap, ap₂, _∙_}
-use mathlib.Core.List.{List, [], _∷_, _++_, append-nil, append-assoc}
-use Prim.Native.Nat.{ℕ, _+_, _≤_, _<_}
+use mathlib.Core.Path.{◌≡◌, refl, sym, ap, ap₂, ◌∙◌}
+use mathlib.Core.List.{List, [], ◌∷◌, ◌++◌, append-nil, append_assoc}
+use Prim.Native.Nat.{ℕ, ◌+◌, ◌≤◌, ◌<◌}
 use native.Mathlib.Numerals.{add-one}
 use native.Mathlib.Omega.{arith}
 use lib.ListN.{length, drop, length-append, length-drop, take-append-drop}
 use lib.Seq.{drop-cons, drop-drop, length-take-le}
 use borrow.Author.Tests.{lt-ltb, le-ltb}
-use Rattle·base.specs.Bytes.{at, part, xorL}
-use Rattle·base.proofs.Xor.{xorL-nil}
-use Rattle·cmac·specs.specs.LastBlock.{mixed}
-use Rattle·aes.specs.Fips197.{cipher}
-use Rattle·aes.proofs.CipherLaws.{cipher-long}
-use Rattle·cmac·specs.specs.declared.Cmac.{Cmac}
-use Rattle·cmac·specs.specs.Running.{running, pushed, absorbed}
-use Rattle·cmac·proofs.proofs.CmacLaws.{mixed-snoc}
+use Rattle.base.specs.Bytes.{at, part, xorL}
+use Rattle.base.proofs.Xor.{xorL-nil}
+use Rattle.cmac.specs.LastBlock.{mixed}
+use Rattle.aes.specs.Fips197.{cipher}
+use Rattle.aes.proofs.CipherLaws.{cipher-long}
+use Rattle.cmac.specs.declared.Cmac.{Cmac}
+use Rattle.cmac.specs.Running.{running, pushed, absorbed}
+use Rattle.cmac.proofs.CmacLaws.{mixed-snoc}
 
 push-open : (ks x : List ℕ) (n b : ℕ) → n < 16 → pushed (running ks x n) b ≡ running ks (mixed x n b) (n + 1)
 unfolding pushed
@@ -27,10 +27,10 @@ unfolding pushed
 push-full ks x n b h = simp (le-ltb n 16 h)
 
 -- a byte of the message, taken in
-taken : (s s′ : Cmac) (p : List ℕ) (i : ℕ) → i < length p → pushed s (at p i) ≡ s′
-    → absorbed s′ (drop (i + 1) p) ≡ absorbed s (drop i p)
+taken : (s s' : Cmac) (p : List ℕ) (i : ℕ) → i < length p → pushed s (at p i) ≡ s'
+    → absorbed s' (drop (i + 1) p) ≡ absorbed s (drop i p)
 unfolding absorbed
-taken s s′ p i h e =
+taken s s' p i h e =
     ap₂ absorbed (sym e) (ap (λ (n : ℕ). drop n p) (add-one i))
     ∙ ap (absorbed s) (sym (drop-cons p i 0 h))
 
@@ -39,9 +39,9 @@ pub byte-open : (ks x p : List ℕ) (n i : ℕ) → n < 16 → i < length p
 byte-open ks x p n i h k =
     taken (running ks x n) (running ks (mixed x n (at p i)) (n + 1)) p i k (push-open ks x n (at p i) h)
 
-pub byte-next : (ks x p : List ℕ) (n i : ℕ) → 16 ≤ n → i < length p
+pub byte_next : (ks x p : List ℕ) (n i : ℕ) → 16 ≤ n → i < length p
     → absorbed (running ks (mixed (cipher ks x) 0 (at p i)) 1) (drop (i + 1) p) ≡ absorbed (running ks x n) (drop i p)
-byte-next ks x p n i h k =
+byte_next ks x p n i h k =
     taken (running ks x n) (running ks (mixed (cipher ks x) 0 (at p i)) 1) p i k (push-full ks x n (at p i) h)
 
 -- ---- a whole block
@@ -61,7 +61,7 @@ fill ks x d (b ∷ q) n lx ld h =
     (push-open ks (xorL x d) n b (omega arith)
     ∙ ap (λ (l : List ℕ). running ks l (n + 1)) (mixed-snoc x d n b ld (omega arith)))
     ∙ fill ks x (d ++ b ∷ []) q (n + 1) lx (omega (arith, length-append d (b ∷ []))) (omega arith)
-    ∙ ap₂ (running ks) (ap (xorL x) (append-assoc d (b ∷ []) q)) (omega arith)
+    ∙ ap₂ (running ks) (ap (xorL x) (append_assoc d (b ∷ []) q)) (omega arith)
 
 -- a full block is enciphered when a byte comes
 absorb-full : (ks x q : List ℕ) (n : ℕ) → 16 ≤ n → 0 < length q

@@ -1,9 +1,7 @@
 -- A block of sixteen bytes doubled, after RFC 4493, sections 2.1 and 2.3.
 -- Assumes nothing.
-use mathlib.Core.List.{List, [], _∷_, _++_}
-use Prim.Native.Nat.{ℕ, _+_, _*_, _/_, _%_}
-use lib.Dec.{ltb}
-use Rattle·base.specs.Bytes.{pick, tab, at, zeros, xorL}
+use Rattle.std.specs.Prelude.{List, [], ◌∷◌, ◌++◌, ℕ, ◌+◌, ◌*◌, ◌/◌, ◌%◌, ltb}
+use Rattle.base.specs.Bytes.{pick, tab, at, zeros, xorL}
 
 -- 2.1, const_Zero: sixteen zeros
 abbrev pub constZero : List ℕ

@@ -1,12 +1,9 @@
 -- The last block of a message with its subkey as the code makes it, of a chain value that already holds the block's bytes: it
 -- models the code for RFC 4493, section 2.4, step 4, and `cutting` in proofs/CmacLaws.antt ties it to the tag.
 -- Assumes nothing.
-use mathlib.Core.List.{List}
-use Prim.Native.Nat.{ℕ}
-use lib.ListN.{set}
-use lib.Dec.{ltb}
-use Rattle·base.specs.Bytes.{pick, at, _⊕_, xorL}
-use Rattle·cmac·specs.specs.Doubling.{doubled}
+use Rattle.std.specs.Prelude.{List, ℕ, set, ltb}
+use Rattle.base.specs.Bytes.{pick, at, ◌⊕◌, xorL}
+use Rattle.cmac.specs.Doubling.{doubled}
 
 -- x with the byte b put in at index i
 abbrev pub mixed : List ℕ → ℕ → ℕ → List ℕ

@@ -2,14 +2,11 @@
 -- (section 2.4). ks is the key schedule, so that AES-128(K, x) is cipher ks x; m is the message. The blocks of the message
 -- go by their index.
 -- Assumes nothing.
-use mathlib.Core.List.{List, _∷_, _++_}
-use Prim.Native.Nat.{ℕ, zero, suc, _*_, _-_, _/_}
-use lib.ListN.{length, drop, replicate}
-use lib.Dec.{ltb}
-use Rattle·base.specs.Bytes.{pick, part, xorL}
-use Rattle·cmac·specs.specs.Doubling.{constZero, doubled}
-use Rattle·aes.specs.KeyExpansion.{keyExpansion}
-use Rattle·aes.specs.Fips197.{cipher}
+use Rattle.std.specs.Prelude.{List, ◌∷◌, ◌++◌, ℕ, zero, suc, ◌*◌, ◌-◌, ◌/◌, length, drop, replicate, ltb}
+use Rattle.base.specs.Bytes.{pick, part, xorL}
+use Rattle.cmac.specs.Doubling.{constZero, doubled}
+use Rattle.aes.specs.KeyExpansion.{keyExpansion}
+use Rattle.aes.specs.Fips197.{cipher}
 
 -- 2.3: K1, of L = AES-128(K, const_Zero)
 unfoldable pub subkey1 : List ℕ → List ℕ

@@ -1,12 +1,12 @@
 // What RFC 4493 does with blocks apart from the cipher: doubling (2.3), and the last block (2.4).
-ghost use mathlib.Core.Path.{_≡_};
-ghost use Rattle·base.specs.Bytes.{xorL};
-ghost use Rattle·cmac·specs.specs.Doubling.{shifted, doubled};
-ghost use Rattle·cmac·specs.specs.LastBlock.{ended};
+ghost use Rattle.std.specs.Prelude.{◌≡◌};
+ghost use Rattle.base.specs.Bytes.{xorL};
+ghost use Rattle.cmac.specs.Doubling.{shifted, doubled};
+ghost use Rattle.cmac.specs.LastBlock.{ended};
 
 // Two blocks, byte by byte.
 pub(crate) fn xored(a: [u8; 16], b: [u8; 16]) -> [u8; 16]
-    ensures { λ r. ⌜ r ≡ xorL a b ⌝ }
+    ensures { result ≡ xorL a b }
 {
     let mut r = [0u8; 16];
     let mut i: usize = 0;
@@ -19,7 +19,7 @@ pub(crate) fn xored(a: [u8; 16], b: [u8; 16]) -> [u8; 16]
 
 // Shifted left by one bit.
 fn shift(x: [u8; 16]) -> [u8; 16]
-    ensures { λ r. ⌜ r ≡ shifted x ⌝ }
+    ensures { result ≡ shifted x }
 {
     let mut r = [0u8; 16];
     let mut i: usize = 0;
@@ -33,7 +33,7 @@ fn shift(x: [u8; 16]) -> [u8; 16]
 
 // Section 2.3: shifted left by one bit; a one that falls out comes back as 0x87 in the last byte.
 fn double(x: [u8; 16]) -> [u8; 16]
-    ensures { λ r. ⌜ r ≡ doubled x ⌝ }
+    ensures { result ≡ doubled x }
 {
     let mut r = shift(x);
     if x[0] < 128 {
@@ -46,7 +46,7 @@ fn double(x: [u8; 16]) -> [u8; 16]
 // Section 2.4, step 4: the chain value with the last block, of which it holds `count` bytes, and with the subkey that
 // goes with it. An open block gets its one bit and the second subkey, a full one the first.
 pub(crate) fn last_block(l: [u8; 16], chain: [u8; 16], count: usize) -> [u8; 16]
-    ensures { λ r. ⌜ r ≡ ended l chain count ⌝ }
+    ensures { result ≡ ended l chain count }
 {
     let k1 = double(l);
     let mut last = chain;

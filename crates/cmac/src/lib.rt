@@ -1,18 +1,17 @@
 // CMAC with AES-128 (RFC 4493): a running state that takes the message in parts, and the tag. The cipher is cited by what
 // its crate states.
-ghost use mathlib.Core.Path.{_≡_};
-ghost use Prim.Native.Nat.{_+_, _≤_};
-ghost use lib.ListN.{length};
-ghost use Rattle·base.specs.Bytes.{part, xorL};
-ghost use Rattle·aes.specs.KeyExpansion.{keyExpansion};
-ghost use Rattle·aes.specs.Fips197.{cipher};
-ghost use Rattle·cmac·specs.specs.Rfc4493.{mac};
-ghost use Rattle·cmac·specs.specs.Running.{started, resumed, absorbed, finished};
+ghost use Rattle.std.specs.Prelude.{◌≡◌, ◌+◌, ◌≤◌, length};
+ghost use Rattle.base.specs.Bytes.{part, xorL};
+ghost use Rattle.aes.specs.KeyExpansion.{keyExpansion};
+ghost use Rattle.aes.specs.Fips197.{cipher};
+ghost use Rattle.cmac.specs.Rfc4493.{mac};
+ghost use Rattle.cmac.specs.Running.{started, resumed, absorbed, finished};
 
 mod blocks;
 
 // A tag under way. `chain` already holds the bytes of the open block, `filled` says how many those are. A full block
 // is enciphered only when a further byte comes, since the last block of a message is treated apart.
+#[derive(Drop)]
 pub struct Cmac {
     pub schedule: [u8; 176],
     pub chain: [u8; 16],
@@ -21,8 +20,8 @@ pub struct Cmac {
 
 // A block with the sixteen bytes from `at` on, byte by byte.
 fn xored_at(block: [u8; 16], bytes: &[u8], at: usize) -> [u8; 16]
-    requires { ⌜ at + 16 ≤ length (now bytes) ⌝ }
-    ensures { λ r. ⌜ r ≡ xorL block (part at 16 (now (bytes .entry))) ⌝ }
+    requires { at + 16 ≤ length bytes.now }
+    ensures { result ≡ xorL block (part at 16 bytes.now) }
 {
     let mut r = [0u8; 16];
     let mut i: usize = 0;
@@ -35,7 +34,7 @@ fn xored_at(block: [u8; 16], bytes: &[u8], at: usize) -> [u8; 16]
 
 // One step of the chain: what stands after `block`, where `chain` stood before it.
 pub fn next_chain(schedule: &[u8; 176], chain: [u8; 16], block: [u8; 16]) -> [u8; 16]
-    ensures { λ r. ⌜ r ≡ cipher (now (schedule .entry)) (xorL chain block) ⌝ }
+    ensures { result ≡ cipher schedule.now (xorL chain block) }
 {
     let open = blocks::xored(chain, block);
     aes::encrypt_under(schedule, open)
@@ -44,21 +43,21 @@ pub fn next_chain(schedule: &[u8; 176], chain: [u8; 16], block: [u8; 16]) -> [u8
 impl Cmac {
     // Before the first byte of a message.
     pub fn new(key: [u8; 16]) -> Self
-        ensures { λ r. ⌜ r ≡ started (keyExpansion key) ⌝ }
+        ensures { result ≡ started (keyExpansion key) }
     {
         let schedule = aes::key_expansion::expand(key);
         Cmac::with_schedule(schedule)
     }
 
     pub fn with_schedule(schedule: [u8; 176]) -> Self
-        ensures { λ r. ⌜ r ≡ started schedule ⌝ }
+        ensures { result ≡ started schedule }
     {
         Cmac::resume(schedule, [0u8; 16])
     }
 
     // At a block's edge, after the chain value `chain`.
     pub fn resume(schedule: [u8; 176], chain: [u8; 16]) -> Self
-        ensures { λ r. ⌜ r ≡ resumed schedule chain ⌝ }
+        ensures { result ≡ resumed schedule chain }
     {
         Cmac {
             schedule,
@@ -69,7 +68,7 @@ impl Cmac {
 
     // A part of the message. Whole blocks behind a full one go a block a turn, other bytes one by one.
     pub fn update(self, part: &[u8]) -> Self
-        ensures { λ r. ⌜ r ≡ absorbed self (now (part .entry)) ⌝ }
+        ensures { result ≡ absorbed self part.now }
     {
         let schedule = self.schedule;
         let mut chain = self.chain;
@@ -104,7 +103,7 @@ impl Cmac {
 
     // Section 2.4: the tag of what was taken in.
     pub fn finish(self) -> [u8; 16]
-        ensures { λ r. ⌜ r ≡ finished self ⌝ }
+        ensures { result ≡ finished self }
     {
         let schedule = self.schedule;
         let chain = self.chain;
@@ -117,7 +116,7 @@ impl Cmac {
 
 // The tag of a message in one part.
 pub fn tag(key: [u8; 16], message: &[u8]) -> [u8; 16]
-    ensures { λ r. ⌜ r ≡ mac key (now (message .entry)) ⌝ }
+    ensures { result ≡ mac key message.now }
 {
     Cmac::new(key).update(message).finish()
 }

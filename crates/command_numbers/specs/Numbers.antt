@@ -1,27 +1,22 @@
 -- A command as six numbers: the identifier, then its values in the order of the fields, 0 past the last one; the margin is signed
 -- (docs/RULES.md, MAC commands, From C). And back: what each of six numbers is taken for.
 -- Assumes nothing.
-use mathlib.Core.Bool.{Bool, true, false}
-use mathlib.Core.List.{List, [], _∷_}
-use Prim.Native.Nat.{ℕ}
-use lib.Dec.{ltb, eqb}
-use lib.IntN.{ℤ, pos, negsuc}
-use lib.ListN.{getD}
-use Rattle·base.specs.Bytes.{pick, at}
-use Rattle·mac_commands.specs.Commands.{marginOf, rawOf, rowAt, valuesOf, idOf}
-use Rattle·mac_commands.specs.declared.maccommands.Command.{Command}
+use Rattle.std.specs.Prelude.{Bool, true, false, List, [], ◌∷◌, ℕ, ltb, eqb, ℤ, pos, negsuc, get_or}
+use Rattle.base.specs.Bytes.{pick, at}
+use Rattle.mac_commands.specs.Commands.{marginOf, rawOf, row_at, valuesOf, id_of}
+use Rattle.mac_commands.specs.declared.maccommands.Command.{Command}
 
 -- ---- the numbers of a command
 
 -- the second value of a row: that of DevStatusAns, row 13, is the margin
-unfoldable pub signedOf : ℕ → ℕ → ℤ
-signedOf r x = pick (eqb r 13) (marginOf x) (pos x)
+unfoldable pub signed_of : ℕ → ℕ → ℤ
+signed_of r x = pick (eqb r 13) (marginOf x) (pos x)
 
 abbrev pub sixOf : ℕ → List ℕ → List ℤ
-sixOf r xs = pos (idOf r) ∷ pos (at xs 0) ∷ signedOf r (at xs 1) ∷ pos (at xs 2) ∷ pos (at xs 3) ∷ pos (at xs 4) ∷ []
+sixOf r xs = pos (id_of r) ∷ pos (at xs 0) ∷ signed_of r (at xs 1) ∷ pos (at xs 2) ∷ pos (at xs 3) ∷ pos (at xs 4) ∷ []
 
 abbrev pub numbersOf : Command → List ℤ
-numbersOf c = sixOf (rowAt c) (valuesOf c)
+numbersOf c = sixOf (row_at c) (valuesOf c)
 
 -- ---- the command that six numbers name
 
@@ -40,7 +35,7 @@ bitsOfNumber true id z = pick (eqb id 6) (rawOf z) (unsignedOf z)
 bitsOfNumber false id z = unsignedOf z
 
 abbrev pub number : List ℤ → ℕ → ℤ
-number zs i = getD zs i (pos 0)
+number zs i = get_or zs i (pos 0)
 
 abbrev pub idGiven : List ℤ → ℕ
 idGiven zs = idOfNumber (number zs 0)

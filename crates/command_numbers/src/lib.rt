@@ -1,16 +1,12 @@
 // MAC commands as six numbers, for callers that know no enum: the identifier, then the values in the order of the fields, 0 past
 // the last one. The margin of DevStatusAns is signed.
-ghost use mathlib.Core.Path.{_≡_};
-ghost use mathlib.Core.List.{[], _∷_};
-ghost use lib.ListN.{length};
-ghost use Rattle·mac_commands.specs.Layout.{row, fieldsOf};
-ghost use Rattle·mac_commands.specs.Commands.{fieldsWritten, fieldsIn};
-ghost use Rattle·command_numbers·specs.specs.Numbers.{signedOf, sixOf, unsignedOf, idOfNumber, bitsOfNumber, idGiven, valuesGiven};
-use mac_commands::maccommandcreator::Written;
-use mac_commands::maccommandcreator::raw_of;
-use mac_commands::maccommandcreator::write_fields;
-use mac_commands::maccommands::margin_of;
-use mac_commands::maccommands::values_of;
+ghost use Rattle.std.specs.Prelude.{◌≡◌, [], ◌∷◌, length};
+ghost use Rattle.mac_commands.specs.Layout.{row, fields_of};
+ghost use Rattle.mac_commands.specs.Commands.{fieldsWritten, fieldsIn};
+ghost use Rattle.command_numbers.specs.Numbers.{signed_of, sixOf, unsignedOf, idOfNumber, bitsOfNumber, idGiven, valuesGiven};
+
+use mac_commands::maccommandcreator::{Written, raw_of, write_fields};
+use mac_commands::maccommands::{margin_of, values_of};
 
 // The row and the identifier of DevStatusAns, the one command with a signed value, which is its second.
 const STATUS_ROW: usize = 13;
@@ -19,7 +15,7 @@ const STATUS_ID: u8 = 6;
 
 // The second value of a row.
 fn signed_of(row: usize, x: u32) -> i64
-    ensures { λ z. ⌜ z ≡ signedOf row x ⌝ }
+    ensures { result ≡ signed_of row x }
 {
     if row == STATUS_ROW {
         return margin_of(x) as i64;
@@ -28,7 +24,7 @@ fn signed_of(row: usize, x: u32) -> i64
 }
 
 fn six_of(row: usize, a: u32, b: u32, c: u32, d: u32, e: u32) -> [i64; 6]
-    ensures { λ r. ⌜ r ≡ sixOf row (a ∷ b ∷ c ∷ d ∷ e ∷ []) ⌝ }
+    ensures { result ≡ sixOf row (a ∷ b ∷ c ∷ d ∷ e ∷ []) }
 {
     let second = signed_of(row, b);
     [
@@ -43,7 +39,7 @@ fn six_of(row: usize, a: u32, b: u32, c: u32, d: u32, e: u32) -> [i64; 6]
 
 // The six numbers of a row and of the number behind its identifier, as reading finds them.
 pub fn numbers_of(r: usize, v: u64) -> [i64; 6]
-    ensures { λ z. ⌜ z ≡ sixOf r (fieldsOf (row r) v) ⌝ }
+    ensures { result ≡ sixOf r (fields_of (row r) v) }
 {
     let x = values_of(r, v);
     six_of(r, x[0], x[1], x[2], x[3], x[4])
@@ -51,7 +47,7 @@ pub fn numbers_of(r: usize, v: u64) -> [i64; 6]
 
 // A number as a value. What 32 bits cannot hold becomes the largest that they can, which no field holds either.
 fn unsigned_of(z: i64) -> u32
-    ensures { λ x. ⌜ x ≡ unsignedOf z ⌝ }
+    ensures { result ≡ unsignedOf z }
 {
     if z < 0 {
         return 4294967295;
@@ -64,7 +60,7 @@ fn unsigned_of(z: i64) -> u32
 
 // A number as an identifier; 0, which is none, for what is no byte.
 fn id_of(z: i64) -> u8
-    ensures { λ x. ⌜ x ≡ idOfNumber z ⌝ }
+    ensures { result ≡ idOfNumber z }
 {
     let x = unsigned_of(z);
     if x < 256 {
@@ -75,7 +71,7 @@ fn id_of(z: i64) -> u8
 
 // A number as the second value: a margin in six bits, or a value as the others are.
 fn bits_of(uplink: bool, id: u8, z: i64) -> u32
-    ensures { λ x. ⌜ x ≡ bitsOfNumber uplink id z ⌝ }
+    ensures { result ≡ bitsOfNumber uplink id z }
 {
     if uplink {
         if id == STATUS_ID {
@@ -88,10 +84,8 @@ fn bits_of(uplink: bool, id: u8, z: i64) -> u32
 
 // Writes the command of six numbers for a direction, from a place on, and answers the place past it. A refusal writes nothing.
 pub fn write_numbers(uplink: bool, numbers: [i64; 6], out: &mut [u8], at: usize) -> Written
-    ensures { λ w.
-        ⌜ w ≡ fieldsWritten uplink (idGiven numbers) (valuesGiven uplink numbers) (length (now (out .entry))) at ⌝ }
-    ensures { λ _.
-        ⌜ now (out .exit) ≡ fieldsIn uplink (idGiven numbers) (valuesGiven uplink numbers) (now (out .entry)) at ⌝ }
+    ensures value { result ≡ fieldsWritten uplink (idGiven numbers) (valuesGiven uplink numbers) (length out.old) at }
+    ensures out_after { out.new ≡ fieldsIn uplink (idGiven numbers) (valuesGiven uplink numbers) out.old at }
 {
     let id = id_of(numbers[0]);
     let values = [

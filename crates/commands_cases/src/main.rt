@@ -2,8 +2,7 @@
 // after its length in two bytes, low byte first, and a byte that is 1 where its payload on port 0 is taken as decrypted. What must
 // come out tools/commands_cases.py made from docs/RULES.md.
 use input::RECORD_ROOM;
-use libc::STDIN_FILENO;
-use libc::STDOUT_FILENO;
+use libc::{STDIN_FILENO, STDOUT_FILENO};
 
 // The frame that fills record, or as much of it as there is; whether its text was written whole.
 fn print_record(record: &mut [u8], clear: bool) -> bool {

@@ -1,28 +1,28 @@
 -- The lists of commands that a frame has lie within it.
 -- Assumes nothing.
-use mathlib.Core.Path.{_≡_, refl, sym, subst}
+use mathlib.Core.Path.{◌≡◌, refl, sym, subst}
 use mathlib.Core.List.{List}
-use Prim.Native.Nat.{ℕ, _+_, _-_, _≤_}
+use Prim.Native.Nat.{ℕ, ◌+◌, ◌-◌, ◌≤◌}
 use native.Mathlib.Omega.{arith}
 use lib.Dec.{eqb}
 use lib.ListN.{length}
 use borrow.Author.Tests.{leb-true}
-use Rattle·base.proofs.Cases.{by-bool}
-use Rattle·frame.specs.Layout.{fhdrLength, hasPort, fport}
-use Rattle·frame.specs.Reading.{portOf, payloadOf, dataOf, readOf}
-use Rattle·frame.specs.ReadingNumbers.{onData}
-use Rattle·frame.specs.Conditions.{IsData}
-use Rattle·frame.specs.declared.refusals.Refusal.{Refusal}
-use Rattle·frame.specs.declared.parser.DataFrame.{DataFrame}
-use Rattle·frame.specs.declared.parser.FrmPayload.{FrmPayload}
-use Rattle·frame.specs.declared.parser.Reading.{Reading}
-use Rattle·frame.specs.declared.parser.Reading.the-variants.{JoinRequest, JoinAccept, Data, Refused}
-use Rattle·frame.proofs.ReadingLaws.{data-read, data-fields}
-use Rattle·mac_commands.specs.InFrame.{commandsFrom, commandsTo, listsOf, inFrame}
-use Rattle·mac_commands.specs.declared.in_frame.CommandLists.{CommandLists}
-use Rattle·mac_commands.specs.declared.in_frame.InFrame.the-variants.{Lists}
-use Rattle·mac_commands.specs.declared.in_frame.InFrame.the-variants.{Refused as Unread}
-use Rattle·commands_text·specs.specs.Within.{Within}
+use Rattle.base.proofs.Cases.{by_bool}
+use Rattle.frame.specs.Layout.{fhdrLength, hasPort, fport}
+use Rattle.frame.specs.Reading.{portOf, payloadOf, data_of, read_of}
+use Rattle.frame.specs.ReadingNumbers.{onData}
+use Rattle.frame.specs.Conditions.{IsData}
+use Rattle.frame.specs.declared.refusals.Refusal.{Refusal}
+use Rattle.frame.specs.declared.parser.DataFrame.{DataFrame}
+use Rattle.frame.specs.declared.parser.FrmPayload.{FrmPayload}
+use Rattle.frame.specs.declared.parser.Reading.{Reading}
+use Rattle.frame.specs.declared.parser.Reading.TheVariants.{JoinRequest, JoinAccept, Data, Refused}
+use Rattle.frame.proofs.ReadingLaws.{data-read, data-fields}
+use Rattle.mac_commands.specs.InFrame.{commandsFrom, commandsTo, lists_of, inFrame}
+use Rattle.mac_commands.specs.declared.in_frame.CommandLists.{CommandLists}
+use Rattle.mac_commands.specs.declared.in_frame.InFrame.TheVariants.{Lists}
+use Rattle.mac_commands.specs.declared.in_frame.InFrame.TheVariants.{Refused as Unread}
+use Rattle.commands_text.specs.Within.{Within}
 
 -- the commands of a payload whose MIC stands at m, in n bytes
 abbrev Spans : ℕ → ℕ → FrmPayload → Type 0
@@ -33,29 +33,29 @@ unfolding payloadOf portOf
 payload-spans f =
     let upto : length f - 4 ≤ length f = omega arith in
     let none : length f - 4 ≤ length f - 4 = omega arith in
-    by-bool (hasPort f)
+    by_bool (hasPort f)
     (λ e.
     let ends : fhdrLength f + 2 ≤ length f - 4 = omega (arith, leb-true (fhdrLength f + 6) (length f) e) in
-    by-bool (eqb (fport f) 0) (λ z. simp (e, z) (ends, upto)) (λ z. simp (e, z) (none, upto)))
+    by_bool (eqb (fport f) 0) (λ z. simp (e, z) (ends, upto)) (λ z. simp (e, z) (none, upto)))
     (λ e. simp e (none, upto))
 
-within-data : (f : List ℕ) → IsData f → Within f (listsOf (dataOf f))
-unfolding listsOf dataOf
-within-data f h = ((omega arith, omega (arith, h .fits)), payload-spans f)
+within-data : (f : List ℕ) → IsData f → Within f (lists_of (data_of f))
+unfolding lists_of data_of
+within-data f h = ((omega arith, omega (arith, h.fits)), payload-spans f)
 
 refused : {A : Type 0} (r : Refusal) (l : CommandLists) → Unread r ≡ Lists l → A
-refused r l e = let z : _≡_ {A = ℕ} 0 1 = cc in let no : ⊥ = omega arith in absurd no
+refused r l e = let z : ◌≡◌ {A = ℕ} 0 1 = cc in let no : ⊥ = omega arith in absurd no
 
-read-within : (f : List ℕ) (r : Reading) (l : CommandLists) → readOf f ≡ r → onData (λ d. Lists (listsOf d)) Unread r ≡ Lists l
+read-within : (f : List ℕ) (r : Reading) (l : CommandLists) → read_of f ≡ r → onData (λ d. Lists (lists_of d)) Unread r ≡ Lists l
     → Within f l
 read-within f JoinRequest l e h = refused _ l h
 read-within f (JoinAccept n) l e h = refused _ l h
 read-within f (Refused r) l e h = refused r l h
 read-within f (Data d) l e h =
-    let same : listsOf d ≡ l = cc in
+    let same : lists_of d ≡ l = cc in
     subst (λ (x : CommandLists). Within f x) same
-    (subst (λ (x : DataFrame). Within f (listsOf x)) (sym (data-fields f e)) (within-data f (data-read f e)))
+    (subst (λ (x : DataFrame). Within f (lists_of x)) (sym (data-fields f e)) (within-data f (data-read f e)))
 
 pub within : (f : List ℕ) (l : CommandLists) → inFrame f ≡ Lists l → Within f l
 unfolding inFrame
-within f l e = read-within f (readOf f) l refl e
+within f l e = read-within f (read_of f) l refl e

@@ -1,24 +1,15 @@
 // The MAC commands of a frame as text for a person, on standard output (docs/RULES.md, "Text"). Each function here answers whether
 // all that it has to say was written.
-ghost use mathlib.Core.Path.{_≡_};
-ghost use mathlib.Core.Bool.{true};
-ghost use Prim.Native.Nat.{_≤_};
-ghost use lib.IntN.{pos, natAbs};
-ghost use lib.ListN.{length};
-ghost use lib.Signed.{ltZ};
-ghost use Rattle·commands_text·specs.specs.Within.{Within};
-use frame::packet_length::FOPTS_AT;
-use frame::packet_length::PHY_PAYLOAD_MAX_LEN;
-use frame::refusals::FRAME_TOO_LONG;
-use frame::refusals::Refusal;
+ghost use Rattle.std.specs.Prelude.{◌≡◌, true, ◌≤◌, pos, nat_abs, length};
+ghost use Rattle.std.specs.Int.Signed.{lt_z};
+ghost use Rattle.commands_text.specs.Within.{Within};
+
+use frame::packet_length::{FOPTS_AT, PHY_PAYLOAD_MAX_LEN};
+use frame::refusals::{FRAME_TOO_LONG, Refusal};
 use libc::STDOUT_FILENO;
-use mac_commands::in_frame::CommandLists;
-use mac_commands::in_frame::InFrame;
-use mac_commands::in_frame::command_lists;
+use mac_commands::in_frame::{CommandLists, InFrame, command_lists};
 use mac_commands::maccommandcreator::fields_of;
-use mac_commands::maccommands::Command;
-use mac_commands::maccommands::Step;
-use mac_commands::maccommands::read_step;
+use mac_commands::maccommands::{Command, Step, read_step};
 
 // A command has at most so many fields.
 const FIELDS_MAX: usize = 5;
@@ -47,8 +38,8 @@ fn print_refusal(refusal: Refusal) -> bool {
 
 // Where a pattern has its next mark, from a place on; its length, where it has no more.
 fn next_mark(pattern: &[u8], from: usize) -> usize
-    requires { ⌜ from ≤ length (now pattern) ⌝ }
-    ensures { λ r. ⌜ (from ≤ r) × (r ≤ length (now (pattern .entry))) ⌝ }
+    requires { from ≤ length pattern.now }
+    ensures { (from ≤ result) × (result ≤ length pattern.now) }
 {
     let mut i = from;
     while i < pattern.len() {
@@ -122,8 +113,8 @@ fn print_row(row: usize, values: [u32; FIELDS_MAX]) -> bool {
 
 // How far a number is below 0: counted from -1, since i8 has -128 and no 128.
 fn below_zero(n: i8) -> u32
-    requires { ⌜ ltZ n (pos 0) ≡ true ⌝ }
-    ensures { λ r. ⌜ r ≡ natAbs n ⌝ }
+    requires { lt_z n (pos 0) ≡ true }
+    ensures { result ≡ nat_abs n }
 {
     (-1 - n) as u32 + 1
 }
@@ -144,7 +135,7 @@ fn print_command(command: Command) -> bool {
 
 // The commands of the bytes start..end of a frame, each with its place in the frame, and the fault that ends them.
 fn print_list(word: &[u8], uplink: bool, frame: &[u8], start: usize, end: usize) -> bool
-    requires { ⌜ (start ≤ end) × (end ≤ length (now frame)) ⌝ }
+    requires { (start ≤ end) × (end ≤ length frame.now) }
 {
     if !print_number_line(word, end - start) {
         return false;
@@ -180,7 +171,7 @@ fn print_direction(uplink: bool) -> bool {
 
 // The list on port 0, if there is one.
 fn print_payload(frame: &[u8], lists: CommandLists, clear: bool) -> bool
-    requires { ⌜ Within (now frame) lists ⌝ }
+    requires { Within frame.now lists }
 {
     if !lists.on_port_0 {
         return true;
@@ -198,7 +189,7 @@ fn print_payload(frame: &[u8], lists: CommandLists, clear: bool) -> bool
 }
 
 fn print_data(frame: &[u8], lists: CommandLists, clear: bool) -> bool
-    requires { ⌜ Within (now frame) lists ⌝ }
+    requires { Within frame.now lists }
 {
     print_direction(lists.uplink)
         && print_list(b"fopts ", lists.uplink, frame, FOPTS_AT, lists.fopts_end)

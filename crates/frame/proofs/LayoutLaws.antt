@@ -1,23 +1,23 @@
 -- Where the parts of a frame lie: each place of an accepted data frame is within it, header, payload and MIC make up the
 -- frame, and reading looks at the length and the header alone. The bounds are arithmetic from what `IsData` says.
 -- Assumes nothing.
-use mathlib.Core.Path.{_≡_, sym, ap, _∙_}
-use mathlib.Core.List.{List, _++_}
-use Prim.Native.Nat.{ℕ, _+_, _-_, _%_, _≤_, _<_}
+use mathlib.Core.Path.{◌≡◌, sym, ap, ◌∙◌}
+use mathlib.Core.List.{List, ◌++◌}
+use Prim.Native.Nat.{ℕ, ◌+◌, ◌-◌, ◌%◌, ◌≤◌, ◌<◌}
 use native.Mathlib.Omega.{arith}
 use lib.ListN.{length, take, drop, length-take, length-drop, take-append-drop}
-use lib.Seq.{drop-drop, take-add, take-all}
-use Rattle·base.specs.Bytes.{at}
-use Rattle·base.specs.Storing.{runAt}
-use Rattle·base.proofs.Cases.{by-order}
-use Rattle·base.proofs.StoringLaws.{run-inside}
-use Rattle·frame·specs.specs.Layout.{fhdrLength, payloadStart, payloadEnd, headerEnd, header, payload, micOf}
-use Rattle·frame·specs.specs.Reading.{portOf, payloadOf, dataOf, readJoinRequest, readJoinAccept, readData, readType, readOf}
-use Rattle·frame·specs.specs.Conditions.{IsData}
-use Rattle·frame·specs.specs.Refusals.{refusal}
-use Rattle·frame·specs.specs.declared.parser.FPort.the-variants.{Port}
-use Rattle·frame·specs.specs.declared.parser.Reading.the-variants.{Refused}
-use Rattle·frame·proofs.proofs.ReadingSteps.{port-there, port-absent, too-short as short-read}
+use lib.Seq.{drop-drop, take-add, take_all}
+use Rattle.base.specs.Bytes.{at}
+use Rattle.base.specs.Storing.{run_at}
+use Rattle.base.proofs.Cases.{by_order}
+use Rattle.base.proofs.StoringLaws.{run_inside}
+use Rattle.frame.specs.Layout.{fhdrLength, payloadStart, payloadEnd, headerEnd, header, payload, micOf}
+use Rattle.frame.specs.Reading.{portOf, payloadOf, data_of, readJoinRequest, readJoinAccept, readData, readType, read_of}
+use Rattle.frame.specs.Conditions.{IsData}
+use Rattle.frame.specs.Refusals.{refusal}
+use Rattle.frame.specs.declared.parser.FPort.TheVariants.{Port}
+use Rattle.frame.specs.declared.parser.Reading.TheVariants.{Refused}
+use Rattle.frame.proofs.ReadingSteps.{port-there, port-absent, too_short as short-read}
 
 -- ---- places
 
@@ -62,10 +62,10 @@ parts f =
     ∙ take-append-drop (headerEnd f) f
 
 -- the MIC is the run of four bytes at the end
-pub mic-run : (f : List ℕ) → 4 ≤ length f → runAt 4 f (length f - 4) ≡ micOf f
+pub mic-run : (f : List ℕ) → 4 ≤ length f → run_at 4 f (length f - 4) ≡ micOf f
 mic-run f h =
-    run-inside 4 f (length f - 4) (omega arith)
-    ∙ take-all 4 (drop (length f - 4) f) (omega (arith, length-drop (length f - 4) f))
+    run_inside 4 f (length f - 4) (omega arith)
+    ∙ take_all 4 (drop (length f - 4) f) (omega (arith, length-drop (length f - 4) f))
 
 -- header and payload are all ahead of the MIC
 pub before-mic : (f : List ℕ) → header f ++ payload f ≡ take (length f - 4) f
@@ -95,7 +95,7 @@ module _ (f g : List ℕ) (long : length f ≡ length g) (same : (i : ℕ) → i
     -- where there is a port, it is ahead of the payload
     same-port : portOf f ≡ portOf g
     same-port =
-        by-order (fhdrLength f + 6) (length f)
+        by_order (fhdrLength f + 6) (length f)
         (λ l.
         port-there f l
         ∙ ap Port (same (1 + fhdrLength f) (omega arith) ∙ ap (λ (n : ℕ). at g (1 + n)) same-fhdr)
@@ -103,16 +103,16 @@ module _ (f g : List ℕ) (long : length f ≡ length g) (same : (i : ℕ) → i
         (λ l. port-absent f (omega arith) ∙ sym (port-absent g (omega (arith, same-fhdr, long))))
 
     -- two frames of one length that agree ahead of payload and MIC have the same fields
-    pub data-same : dataOf f ≡ dataOf g
-    unfolding dataOf payloadOf
+    pub data-same : data_of f ≡ data_of g
+    unfolding data_of payloadOf
     data-same = cc (long, same-0, same-5, same-6, same-7, same-port)
 
     -- and read the same
-    enough-same : readOf f ≡ readOf g
-    unfolding readOf readType readJoinRequest readJoinAccept readData
+    enough-same : read_of f ≡ read_of g
+    unfolding read_of readType readJoinRequest readJoinAccept readData
     enough-same = cc (long, same-0, same-5, data-same)
 
-  pub read-same : readOf f ≡ readOf g
-  read-same =
-      by-order 12 (length f) enough-same
+  pub read_same : read_of f ≡ read_of g
+  read_same =
+      by_order 12 (length f) enough-same
       (λ l. short-read f l ∙ ap (λ (n : ℕ). Refused (refusal 1 n)) long ∙ sym (short-read g (omega (arith, long))))

@@ -1,24 +1,24 @@
 -- What the packed number of each reading is as a sum, in the words of the code.
 -- Assumes nothing.
-use mathlib.Core.Path.{_≡_, refl, sym, ap, _∙_}
+use mathlib.Core.Path.{◌≡◌, refl, sym, ap, ◌∙◌}
 use mathlib.Core.List.{List}
-use mathlib.Core.Logic.{⊎-elim}
-use Prim.Native.Nat.{ℕ, _+_, _-_, _*_, _≤_, _<_}
+use mathlib.Core.Logic.{⊎_elim}
+use Prim.Native.Nat.{ℕ, ◌+◌, ◌-◌, ◌*◌, ◌≤◌, ◌<◌}
 use native.Mathlib.Omega.{arith}
 use lib.Dec.{eqb}
 use lib.ListN.{length}
-use borrow.Author.Tests.{eq-eqb, ne-eqb}
-use Rattle·base.specs.Bytes.{pick}
-use Rattle·base.proofs.Cases.{by-order, by-equal}
-use Rattle·frame·specs.specs.Layout.{mtype, fctrl, fcnt, fhdrLength, fport, headerEnd}
-use Rattle·frame·specs.specs.Reading.{payloadOf, dataOf, readOf}
-use Rattle·frame·specs.specs.Conditions.{IsData}
-use Rattle·frame·specs.specs.PackedReading.{packed, accepted, bitsOfJoin, packedOf, numbered, payloadAt, portBits}
-use Rattle·frame·specs.specs.declared.refusals.Refusal.{Refusal}
-use Rattle·frame·specs.specs.declared.parser.Reading.{Reading}
-use Rattle·frame·specs.specs.declared.parser.Reading.the-variants.{JoinRequest, JoinAccept, Refused}
-use Rattle·frame·proofs.proofs.ReadingLaws.{reads-data, accept-read}
-use Rattle·frame·proofs.proofs.ReadingSteps as steps
+use borrow.Author.Tests.{eq-eqb, ne_eqb}
+use Rattle.base.specs.Bytes.{pick}
+use Rattle.base.proofs.Cases.{by_order, by_equal}
+use Rattle.frame.specs.Layout.{mtype, fctrl, fcnt, fhdrLength, fport, headerEnd}
+use Rattle.frame.specs.Reading.{payloadOf, data_of, read_of}
+use Rattle.frame.specs.Conditions.{IsData}
+use Rattle.frame.specs.PackedReading.{packed, accepted, bitsOfJoin, packedOf, numbered, payloadAt, portBits}
+use Rattle.frame.specs.declared.refusals.Refusal.{Refusal}
+use Rattle.frame.specs.declared.parser.Reading.{Reading}
+use Rattle.frame.specs.declared.parser.Reading.TheVariants.{JoinRequest, JoinAccept, Refused}
+use Rattle.frame.proofs.ReadingLaws.{reads-data, accept-read}
+use Rattle.frame.proofs.ReadingSteps as steps
 
 -- ---- as sums
 
@@ -28,7 +28,7 @@ pub flat : (t g k p s m c n : ℕ)
 flat t g k p s m c n = omega arith
 
 -- a refused reading is its number with its place above it
-pub flat-refused : (r : Refusal) → numbered (r .number) (r .place) ≡ packedOf (Refused r)
+pub flat-refused : (r : Refusal) → numbered r.number r.place ≡ packedOf (Refused r)
 unfolding packedOf numbered
 flat-refused r = refl
 
@@ -45,8 +45,8 @@ unfolding packedOf
 accept-is e q = q ∙ sym (ap packedOf e)
 
 -- and the length that it may have
-pub accept-within : (f : List ℕ) {n : ℕ} → readOf f ≡ JoinAccept n → (4 ≤ n) × (n < 256)
-accept-within f e = ⊎-elim (λ q. (omega arith, omega arith)) (λ q. (omega arith, omega arith)) (accept-read f e .either)
+pub accept-within : (f : List ℕ) {n : ℕ} → read_of f ≡ JoinAccept n → (4 ≤ n) × (n < 256)
+accept-within f e = ⊎_elim (λ q. (omega arith, omega arith)) (λ q. (omega arith, omega arith)) (accept-read f e).either
 
 -- ---- a data frame
 
@@ -54,9 +54,9 @@ module _ (f : List ℕ) where
   -- where the payload is, by the frame's length
   pub start : 5 + fhdrLength f ≤ length f → payloadAt (length f - 4) (payloadOf f) ≡ headerEnd f
   start h =
-      by-order (fhdrLength f + 6) (length f)
+      by_order (fhdrLength f + 6) (length f)
       (λ k.
-      by-equal (fport f) 0 (λ z. rw (steps.payload-commands f k z) (omega arith))
+      by_equal (fport f) 0 (λ z. rw (steps.payload-commands f k z) (omega arith))
       (λ z. rw (steps.payload-data f k z) (omega arith)))
       (λ l. rw (steps.payload-none f l) (omega arith))
 
@@ -64,26 +64,26 @@ module _ (f : List ℕ) where
   pub bits-held : fhdrLength f + 6 ≤ length f → portBits f ≡ pick (eqb (fport f) 0) 16787456 (fport f * 65536 + 16783360)
   unfolding portBits
   bits-held h =
-      by-equal (fport f) 0
+      by_equal (fport f) 0
       (λ z. rw (steps.port-there f h, steps.payload-commands f h z, eq-eqb _ _ z) (omega arith))
-      (λ z. rw (steps.port-there f h, steps.payload-data f h z, ne-eqb _ _ z) (omega arith))
+      (λ z. rw (steps.port-there f h, steps.payload-data f h z, ne_eqb _ _ z) (omega arith))
 
-  pub bits-none : 5 + fhdrLength f ≤ length f → length f < fhdrLength f + 6 → portBits f ≡ 0
+  pub bits_none : 5 + fhdrLength f ≤ length f → length f < fhdrLength f + 6 → portBits f ≡ 0
   unfolding portBits
-  bits-none l h = rw (steps.port-absent f h, steps.payload-none f h) (omega arith)
+  bits_none l h = rw (steps.port-absent f h, steps.payload-none f h) (omega arith)
 
   -- its number
   data-sum : IsData f
       → mtype f * 256 + (1 + fhdrLength f) * 16777216 + (length f - 4) * 4294967296 + fctrl f * 1099511627776 + fcnt f * 281474976710656 + portBits f
-      ≡ packedOf (readOf f)
-  unfolding packedOf dataOf portBits
+      ≡ packedOf (read_of f)
+  unfolding packedOf data_of portBits
   data-sum h =
       sym (ap packedOf (reads-data f h)
       ∙ flat (mtype f) _ _ _ (payloadAt (length f - 4) (payloadOf f)) (length f - 4) (fctrl f) (fcnt f)
-      ∙ omega (arith, start (h .fits)))
+      ∙ omega (arith, start h.fits))
 
   -- the same with the code's own values
-  pub data-is : {k h v w t r : ℕ} → IsData f → k ≡ mtype f → h ≡ fhdrLength f → v ≡ fcnt f
+  pub data_is : {k h v w t r : ℕ} → IsData f → k ≡ mtype f → h ≡ fhdrLength f → v ≡ fcnt f
       → w ≡ fctrl f * 1099511627776 + v * 281474976710656 → t ≡ portBits f
-      → r ≡ k * 256 + (h + 1) * 16777216 + (length f - 4) * 4294967296 + w + t → r ≡ packedOf (readOf f)
-  data-is {k} {h} {v} {w} {t} {r} is ke he ve we te e = omega (arith, data-sum is)
+      → r ≡ k * 256 + (h + 1) * 16777216 + (length f - 4) * 4294967296 + w + t → r ≡ packedOf (read_of f)
+  data_is {k} {h} {v} {w} {t} {r} is ke he ve we te e = omega (arith, data-sum is)

@@ -1,18 +1,18 @@
 -- What reading gives where its tests are known, one law for each way through the definitions. Each holds since the
 -- definition picks by just these tests.
 -- Assumes nothing.
-use mathlib.Core.Path.{_≡_}
+use mathlib.Core.Path.{◌≡◌}
 use mathlib.Core.List.{List}
-use Prim.Native.Nat.{ℕ, _+_, _-_, _≤_, _<_}
+use Prim.Native.Nat.{ℕ, ◌+◌, ◌-◌, ◌≤◌, ◌<◌}
 use native.Mathlib.Omega.{arith}
 use lib.ListN.{length}
-use borrow.Author.Tests.{lt-ltb, le-ltb, le-leb, lt-leb, eq-eqb, ne-eqb}
-use Rattle·frame·specs.specs.Faults as fault
-use Rattle·frame·specs.specs.Layout.{mtype, major, fhdrLength, fport, payloadStart, payloadEnd}
-use Rattle·frame·specs.specs.Reading.{refuse, portOf, heldBy, payloadOf, dataOf, readJoinRequest, readJoinAccept, readData, readType, readOf}
-use Rattle·frame·specs.specs.declared.parser.FPort.the-variants.{Absent, Port}
-use Rattle·frame·specs.specs.declared.parser.FrmPayload.the-variants.{Nothing, Data as PlainData, MacCommands}
-use Rattle·frame·specs.specs.declared.parser.Reading.the-variants.{JoinRequest, JoinAccept, Data}
+use borrow.Author.Tests.{lt-ltb, le-ltb, le-leb, lt-leb, eq-eqb, ne_eqb}
+use Rattle.frame.specs.Faults as fault
+use Rattle.frame.specs.Layout.{mtype, major, fhdrLength, fport, payloadStart, payloadEnd}
+use Rattle.frame.specs.Reading.{refuse, portOf, heldBy, payloadOf, data_of, readJoinRequest, readJoinAccept, readData, readType, read_of}
+use Rattle.frame.specs.declared.parser.FPort.TheVariants.{Absent, Port}
+use Rattle.frame.specs.declared.parser.FrmPayload.TheVariants.{Nothing, Data as PlainData, MacCommands}
+use Rattle.frame.specs.declared.parser.Reading.TheVariants.{JoinRequest, JoinAccept, Data}
 
 module _ (f : List ℕ) where
   -- ---- the port
@@ -41,7 +41,7 @@ module _ (f : List ℕ) where
 
   pub payload-data : fhdrLength f + 6 ≤ length f → (fport f ≡ 0 → ⊥) → payloadOf f ≡ PlainData (payloadStart f) (payloadEnd f)
   unfolding payloadOf
-  payload-data h z = simp (port-there h, ne-eqb _ _ z)
+  payload-data h z = simp (port-there h, ne_eqb _ _ z)
 
   -- ---- by the type
 
@@ -51,7 +51,7 @@ module _ (f : List ℕ) where
 
   pub request-wrong : (length f ≡ 23 → ⊥) → readJoinRequest f ≡ refuse fault.join-length f
   unfolding readJoinRequest
-  request-wrong n = simp (ne-eqb _ _ n)
+  request-wrong n = simp (ne_eqb _ _ n)
 
   pub accept-short : length f ≡ 17 → readJoinAccept f ≡ JoinAccept 17
   unfolding readJoinAccept
@@ -61,13 +61,13 @@ module _ (f : List ℕ) where
   unfolding readJoinAccept
   accept-long e =
       let n : length f ≡ 17 → ⊥ = λ q. omega arith in
-      simp (ne-eqb _ _ n, eq-eqb _ _ e)
+      simp (ne_eqb _ _ n, eq-eqb _ _ e)
 
   pub accept-wrong : (length f ≡ 17 → ⊥) → (length f ≡ 33 → ⊥) → readJoinAccept f ≡ refuse fault.join-length f
   unfolding readJoinAccept
-  accept-wrong n m = simp (ne-eqb _ _ n, ne-eqb _ _ m)
+  accept-wrong n m = simp (ne_eqb _ _ n, ne_eqb _ _ m)
 
-  pub data-right : 5 + fhdrLength f ≤ length f → readData f ≡ Data (dataOf f)
+  pub data-right : 5 + fhdrLength f ≤ length f → readData f ≡ Data (data_of f)
   unfolding readData
   data-right h = simp (le-leb _ _ h)
 
@@ -83,38 +83,38 @@ module _ (f : List ℕ) where
   unfolding readType
   type-accept e =
       let n : mtype f ≡ 0 → ⊥ = λ q. omega arith in
-      simp (ne-eqb _ _ n, eq-eqb _ _ e)
+      simp (ne_eqb _ _ n, eq-eqb _ _ e)
 
   pub type-data : 2 ≤ mtype f → mtype f < 6 → readType f ≡ readData f
   unfolding readType
   type-data h k =
       let n : mtype f ≡ 0 → ⊥ = λ q. omega arith in
       let m : mtype f ≡ 1 → ⊥ = λ q. omega arith in
-      simp (ne-eqb _ _ n, ne-eqb _ _ m, lt-ltb _ _ k)
+      simp (ne_eqb _ _ n, ne_eqb _ _ m, lt-ltb _ _ k)
 
   pub type-other : 6 ≤ mtype f → readType f ≡ refuse fault.type f
   unfolding readType
   type-other h =
       let n : mtype f ≡ 0 → ⊥ = λ q. omega arith in
       let m : mtype f ≡ 1 → ⊥ = λ q. omega arith in
-      simp (ne-eqb _ _ n, ne-eqb _ _ m, le-ltb _ _ h)
+      simp (ne_eqb _ _ n, ne_eqb _ _ m, le-ltb _ _ h)
 
   -- ---- of any frame
 
-  pub too-long : 255 < length f → readOf f ≡ refuse fault.too-long f
-  unfolding readOf
-  too-long h = simp (lt-ltb _ _ h)
+  pub too_long : 255 < length f → read_of f ≡ refuse fault.too_long f
+  unfolding read_of
+  too_long h = simp (lt-ltb _ _ h)
 
-  pub too-short : length f < 12 → readOf f ≡ refuse fault.too-short f
-  unfolding readOf
-  too-short h =
+  pub too_short : length f < 12 → read_of f ≡ refuse fault.too_short f
+  unfolding read_of
+  too_short h =
       let k : length f ≤ 255 = omega arith in
       simp (le-ltb _ _ k, lt-ltb _ _ h)
 
-  pub other-version : 12 ≤ length f → length f ≤ 255 → (major f ≡ 0 → ⊥) → readOf f ≡ refuse fault.version f
-  unfolding readOf
-  other-version h k n = simp (le-ltb _ _ k, le-ltb _ _ h, ne-eqb _ _ n)
+  pub other-version : 12 ≤ length f → length f ≤ 255 → (major f ≡ 0 → ⊥) → read_of f ≡ refuse fault.version f
+  unfolding read_of
+  other-version h k n = simp (le-ltb _ _ k, le-ltb _ _ h, ne_eqb _ _ n)
 
-  pub by-type : 12 ≤ length f → length f ≤ 255 → major f ≡ 0 → readOf f ≡ readType f
-  unfolding readOf
+  pub by-type : 12 ≤ length f → length f ≤ 255 → major f ≡ 0 → read_of f ≡ readType f
+  unfolding read_of
   by-type h k e = simp (le-ltb _ _ k, le-ltb _ _ h, eq-eqb _ _ e)

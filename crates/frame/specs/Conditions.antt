@@ -1,14 +1,10 @@
 -- docs/RULES.md, Reading and Refusals, as conditions on a frame: what each kind of frame is, and when
 -- each refusal of reading is given, which is where its own condition holds and that of no earlier one does.
 -- Assumes nothing.
-use mathlib.Core.Path.{_≡_}
-use mathlib.Core.List.{List}
-use mathlib.Core.Logic.{_⊎_}
-use Prim.Native.Nat.{ℕ, _+_, _≤_, _<_}
-use lib.ListN.{length}
-use Rattle·frame·specs.specs.Faults.{Fault, too-long, too-short, version, type, join-length, header, faultRefusal}
-use Rattle·frame·specs.specs.Layout.{mtype, major, fhdrLength}
-use Rattle·frame·specs.specs.declared.refusals.Refusal.{Refusal}
+use Rattle.std.specs.Prelude.{◌≡◌, List, ◌⊎◌, ℕ, ◌+◌, ◌≤◌, ◌<◌, length}
+use Rattle.frame.specs.Faults.{Fault, too_long, too_short, version, type, join-length, header, faultRefusal}
+use Rattle.frame.specs.Layout.{mtype, major, fhdrLength}
+use Rattle.frame.specs.declared.refusals.Refusal.{Refusal}
 
 -- ---- what is accepted
 
@@ -73,8 +69,8 @@ pub record Gives4Header (f : List ℕ) : Type 0 where
 
 -- the fault is the one that is found in f
 abbrev pub Found : Fault → List ℕ → Type 0
-Found too-long f = Gives12 f
-Found too-short f = Gives1 f
+Found too_long f = Gives12 f
+Found too_short f = Gives1 f
 Found version f = Gives2 f
 Found type f = Gives3 f
 Found join-length f = Gives4Join f

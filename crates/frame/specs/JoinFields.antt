@@ -1,20 +1,17 @@
 -- The fields of the join messages, from LoRaWAN 1.0 sections 6.2.4 and 6.2.5 (docs/RULES.md, Reading). A refusal has zeros
 -- for every field.
 -- Assumes nothing.
-use mathlib.Core.List.{List}
-use Prim.Native.Nat.{ℕ, _+_, _*_}
-use lib.Dec.{eqb}
-use lib.ListN.{length}
-use Rattle·base.specs.Bytes.{pick, tab, at, part, zeros}
-use Rattle·frame·specs.specs.Layout.{appEui, devEui, devNonce, requestMicAt, appNonce, netId, acceptAddr, dlSettings, rxDelay, cfListAt, cfListType}
-use Rattle·frame·specs.specs.Refusals.{notRefused}
-use Rattle·frame·specs.specs.declared.refusals.Refusal.{Refusal}
-use Rattle·frame·specs.specs.Reading.{readOf}
-use Rattle·frame·specs.specs.ReadingNumbers.{onRequest, onAccept}
-use Rattle·frame·specs.specs.declared.join_fields.CfList.{CfList}
-use Rattle·frame·specs.specs.declared.join_fields.CfList.the-variants.{Absent, Frequencies, Masks}
-use Rattle·frame·specs.specs.declared.join_fields.JoinAcceptFields.{JoinAcceptFields}
-use Rattle·frame·specs.specs.declared.join_fields.JoinRequestFields.{JoinRequestFields}
+use Rattle.std.specs.Prelude.{List, ℕ, ◌+◌, ◌*◌, eqb, length}
+use Rattle.base.specs.Bytes.{pick, tab, at, part, zeros}
+use Rattle.frame.specs.Layout.{appEui, devEui, devNonce, requestMicAt, appNonce, netId, acceptAddr, dlSettings, rxDelay, cfListAt, cfListType}
+use Rattle.frame.specs.Refusals.{notRefused}
+use Rattle.frame.specs.declared.refusals.Refusal.{Refusal}
+use Rattle.frame.specs.Reading.{read_of}
+use Rattle.frame.specs.ReadingNumbers.{onRequest, onAccept}
+use Rattle.frame.specs.declared.join_fields.CfList.{CfList}
+use Rattle.frame.specs.declared.join_fields.CfList.TheVariants.{Absent, Frequencies, Masks}
+use Rattle.frame.specs.declared.join_fields.JoinAcceptFields.{JoinAcceptFields}
+use Rattle.frame.specs.declared.join_fields.JoinRequestFields.{JoinRequestFields}
 
 -- ---- 6.2.4 join-request
 
@@ -22,9 +19,9 @@ unfoldable pub requestFields : List ℕ → JoinRequestFields
 requestFields f =
     record {
       refusal = notRefused;
-      «app_eui» = appEui f;
-      «dev_eui» = devEui f;
-      «dev_nonce» = devNonce f;
+      app_eui = appEui f;
+      dev_eui = devEui f;
+      dev_nonce = devNonce f;
       mic = part requestMicAt 4 f;
     }
 
@@ -32,14 +29,14 @@ unfoldable pub noRequest : Refusal → JoinRequestFields
 noRequest r =
     record {
       refusal = r;
-      «app_eui» = zeros 8;
-      «dev_eui» = zeros 8;
-      «dev_nonce» = zeros 2;
+      app_eui = zeros 8;
+      dev_eui = zeros 8;
+      dev_nonce = zeros 2;
       mic = zeros 4;
     }
 
 abbrev pub joinRequestFields : List ℕ → JoinRequestFields
-joinRequestFields f = onRequest (requestFields f) noRequest (readOf f)
+joinRequestFields f = onRequest (requestFields f) noRequest (read_of f)
 
 -- ---- 6.2.5 join-accept, clear
 
@@ -71,12 +68,12 @@ unfoldable pub acceptFields : List ℕ → JoinAcceptFields
 acceptFields f =
     record {
       refusal = notRefused;
-      «app_nonce» = appNonce f;
-      «net_id» = netId f;
-      «dev_addr» = acceptAddr f;
-      «dl_settings» = dlSettings f;
-      «rx_delay» = rxDelay f;
-      «cf_list» = cfListOf f;
+      app_nonce = appNonce f;
+      net_id = netId f;
+      dev_addr = acceptAddr f;
+      dl_settings = dlSettings f;
+      rx_delay = rxDelay f;
+      cf_list = cfListOf f;
       frequencies = frequenciesOf f;
       masks = masksOf f;
     }
@@ -85,15 +82,15 @@ unfoldable pub noAccept : Refusal → JoinAcceptFields
 noAccept r =
     record {
       refusal = r;
-      «app_nonce» = zeros 3;
-      «net_id» = zeros 3;
-      «dev_addr» = zeros 4;
-      «dl_settings» = 0;
-      «rx_delay» = 0;
-      «cf_list» = Absent;
+      app_nonce = zeros 3;
+      net_id = zeros 3;
+      dev_addr = zeros 4;
+      dl_settings = 0;
+      rx_delay = 0;
+      cf_list = Absent;
       frequencies = zeros 5;
       masks = zeros 9;
     }
 
 abbrev pub joinAcceptFields : List ℕ → JoinAcceptFields
-joinAcceptFields f = onAccept (λ n. acceptFields f) noAccept (readOf f)
+joinAcceptFields f = onAccept (λ n. acceptFields f) noAccept (read_of f)

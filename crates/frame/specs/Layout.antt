@@ -1,12 +1,8 @@
 -- The layout of a frame, from LoRaWAN 1.0 sections 4 and 6.2 (docs/RULES.md, Reading): which bytes of it are what. Each is a
 -- plain function of the bytes; whether the frame is one that has the field is said by `Reading`.
 -- Assumes nothing.
-use mathlib.Core.Bool.{Bool}
-use mathlib.Core.List.{List}
-use Prim.Native.Nat.{ℕ, _+_, _-_, _*_, _/_, _%_, min}
-use lib.Dec.{leb}
-use lib.ListN.{length, take, drop}
-use Rattle·base.specs.Bytes.{at, part}
+use Rattle.std.specs.Prelude.{Bool, List, ℕ, ◌+◌, ◌-◌, ◌*◌, ◌/◌, ◌%◌, min, leb, length, take, drop}
+use Rattle.base.specs.Bytes.{at, part}
 
 -- 4.2.1 MType: bits 5 to 7 of the first byte
 abbrev pub mtype : List ℕ → ℕ

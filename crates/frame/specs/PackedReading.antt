@@ -1,17 +1,16 @@
 -- A reading as one number of 64 bits, for callers across C: fields of so many bits each, from the lowest bit up. The lowest
--- eight are the number of the refusal, 0 where the frame is accepted; `bitsOf` says what lies above.
+-- eight are the number of the refusal, 0 where the frame is accepted; `bits_of` says what lies above.
 -- Assumes nothing.
-use mathlib.Core.List.{List, [], _∷_}
-use Prim.Native.Nat.{ℕ, zero, suc, _+_, _-_, _*_, _%_, _^_, _<_}
-use Rattle·base.specs.Bytes.{pick}
-use Rattle·frame·specs.specs.Layout.{fhdrLength, headerEnd}
-use Rattle·frame·specs.specs.Reading.{portOf, payloadOf}
-use Rattle·frame·specs.specs.ReadingNumbers.{portGiven, portNumber, payloadKind}
-use Rattle·frame·specs.specs.declared.parser.FrmPayload.{FrmPayload}
-use Rattle·frame·specs.specs.declared.parser.FrmPayload.the-variants.{Nothing, Data as PlainData, MacCommands}
-use Rattle·frame·specs.specs.declared.parser.DataFrame.{DataFrame}
-use Rattle·frame·specs.specs.declared.parser.Reading.{Reading}
-use Rattle·frame·specs.specs.declared.parser.Reading.the-variants.{JoinRequest, JoinAccept, Data, Refused}
+use Rattle.std.specs.Prelude.{List, [], ◌∷◌, ℕ, zero, suc, ◌+◌, ◌-◌, ◌*◌, ◌%◌, ◌^◌, ◌<◌}
+use Rattle.base.specs.Bytes.{pick}
+use Rattle.frame.specs.Layout.{fhdrLength, headerEnd}
+use Rattle.frame.specs.Reading.{portOf, payloadOf}
+use Rattle.frame.specs.ReadingNumbers.{portGiven, portNumber, payloadKind}
+use Rattle.frame.specs.declared.parser.FrmPayload.{FrmPayload}
+use Rattle.frame.specs.declared.parser.FrmPayload.TheVariants.{Nothing, Data as PlainData, MacCommands}
+use Rattle.frame.specs.declared.parser.DataFrame.{DataFrame}
+use Rattle.frame.specs.declared.parser.Reading.{Reading}
+use Rattle.frame.specs.declared.parser.Reading.TheVariants.{JoinRequest, JoinAccept, Data, Refused}
 
 -- ---- numbers made of fields
 
@@ -26,7 +25,7 @@ bits w v = record { wide = w; value = v }
 -- the number that has these fields, the first in its lowest bits
 abbrev pub packed : List Bits → ℕ
 packed [] = 0
-packed (b ∷ bs) = packed bs * 2 ^ b .wide + b .value
+packed (b ∷ bs) = packed bs * 2 ^ b.wide + b.value
 
 -- the i-th field, and the bit that it begins at
 abbrev pub nth : List Bits → ℕ → Bits
@@ -34,15 +33,15 @@ nth [] i = bits 0 0
 nth (b ∷ bs) zero = b
 nth (b ∷ bs) (suc i) = nth bs i
 
-abbrev pub bitAt : List Bits → ℕ → ℕ
-bitAt [] i = 0
-bitAt (b ∷ bs) zero = 0
-bitAt (b ∷ bs) (suc i) = b .wide + bitAt bs i
+abbrev pub bit_at : List Bits → ℕ → ℕ
+bit_at [] i = 0
+bit_at (b ∷ bs) zero = 0
+bit_at (b ∷ bs) (suc i) = b.wide + bit_at bs i
 
 -- every value fits its bits
 abbrev pub Fit : List Bits → Type 0
 Fit [] = Unit {0}
-Fit (b ∷ bs) = (b .value < 2 ^ b .wide) × Fit bs
+Fit (b ∷ bs) = (b.value < 2 ^ b.wide) × Fit bs
 
 -- ---- a number with a value above it
 
@@ -74,18 +73,18 @@ bitsOfJoin type n = accepted type 0 0 0 (n - 4) (n - 4) 0 0
 
 abbrev pub bitsOfData : DataFrame → List Bits
 bitsOfData d =
-    accepted (d .mtype) (pick (portGiven (d .port)) 1 0) (payloadKind (d .payload)) (portNumber (d .port))
-    (payloadAt (d .mic) (d .payload)) (d .mic) (d .fctrl) (d .fcnt)
+    accepted d.mtype (pick (portGiven d.port) 1 0) (payloadKind d.payload) (portNumber d.port)
+    (payloadAt d.mic d.payload) d.mic d.fctrl d.fcnt
 
 -- of a refused one: its number, and above it the place
-abbrev pub bitsOf : Reading → List Bits
-bitsOf JoinRequest = bitsOfJoin 0 23
-bitsOf (JoinAccept n) = bitsOfJoin 1 n
-bitsOf (Data d) = bitsOfData d
-bitsOf (Refused r) = numberedBits (r .number) (r .place)
+abbrev pub bits_of : Reading → List Bits
+bits_of JoinRequest = bitsOfJoin 0 23
+bits_of (JoinAccept n) = bitsOfJoin 1 n
+bits_of (Data d) = bitsOfData d
+bits_of (Refused r) = numberedBits r.number r.place
 
 unfoldable pub packedOf : Reading → ℕ
-packedOf r = packed (bitsOf r)
+packedOf r = packed (bits_of r)
 
 -- ---- of a data frame, what its port decides: whether one is reported, the payload's kind, the port, and at bit 24 how many
 -- bytes lie between FOpts and payload

@@ -1,20 +1,17 @@
 -- What reading gives, from docs/RULES.md, Reading and Refusals: the refusals in the order 12, 1, 2, 3, 4, each with its place,
 -- and the fields of what is accepted.
 -- Assumes nothing.
-use mathlib.Core.List.{List}
-use Prim.Native.Nat.{ℕ, _+_, _-_}
-use lib.Dec.{ltb, eqb}
-use lib.ListN.{length}
-use Rattle·base.specs.Bytes.{pick}
-use Rattle·frame·specs.specs.Faults.{Fault, too-long, too-short, version, type, join-length, header, faultRefusal}
-use Rattle·frame·specs.specs.Layout.{mtype, major, fctrl, fcnt, fhdrLength, fitsHeader, hasPort, fport, payloadStart, payloadEnd}
-use Rattle·frame·specs.specs.declared.parser.FPort.{FPort}
-use Rattle·frame·specs.specs.declared.parser.FPort.the-variants.{Absent, Port}
-use Rattle·frame·specs.specs.declared.parser.FrmPayload.{FrmPayload}
-use Rattle·frame·specs.specs.declared.parser.FrmPayload.the-variants.{Nothing, Data as PlainData, MacCommands}
-use Rattle·frame·specs.specs.declared.parser.DataFrame.{DataFrame}
-use Rattle·frame·specs.specs.declared.parser.Reading.{Reading}
-use Rattle·frame·specs.specs.declared.parser.Reading.the-variants.{JoinRequest, JoinAccept, Data, Refused}
+use Rattle.std.specs.Prelude.{List, ℕ, ◌+◌, ◌-◌, ltb, eqb, length}
+use Rattle.base.specs.Bytes.{pick}
+use Rattle.frame.specs.Faults.{Fault, too_long, too_short, version, type, join-length, header, faultRefusal}
+use Rattle.frame.specs.Layout.{mtype, major, fctrl, fcnt, fhdrLength, fitsHeader, hasPort, fport, payloadStart, payloadEnd}
+use Rattle.frame.specs.declared.parser.FPort.{FPort}
+use Rattle.frame.specs.declared.parser.FPort.TheVariants.{Absent, Port}
+use Rattle.frame.specs.declared.parser.FrmPayload.{FrmPayload}
+use Rattle.frame.specs.declared.parser.FrmPayload.TheVariants.{Nothing, Data as PlainData, MacCommands}
+use Rattle.frame.specs.declared.parser.DataFrame.{DataFrame}
+use Rattle.frame.specs.declared.parser.Reading.{Reading}
+use Rattle.frame.specs.declared.parser.Reading.TheVariants.{JoinRequest, JoinAccept, Data, Refused}
 
 -- a frame is refused for a fault, by its number and at its place
 abbrev pub refuse : Fault → List ℕ → Reading
@@ -32,13 +29,13 @@ heldBy (Port n) start end = pick (eqb n 0) (MacCommands start end) (PlainData st
 unfoldable pub payloadOf : List ℕ → FrmPayload
 payloadOf f = heldBy (portOf f) (payloadStart f) (payloadEnd f)
 
-unfoldable pub dataOf : List ℕ → DataFrame
-dataOf f =
+unfoldable pub data_of : List ℕ → DataFrame
+data_of f =
     record {
       mtype = mtype f;
       fctrl = fctrl f;
       fcnt = fcnt f;
-      «fopts_end» = 1 + fhdrLength f;
+      fopts_end = 1 + fhdrLength f;
       port = portOf f;
       payload = payloadOf f;
       mic = length f - 4;
@@ -52,14 +49,14 @@ unfoldable pub readJoinAccept : List ℕ → Reading
 readJoinAccept f = pick (eqb (length f) 17) (JoinAccept 17) (pick (eqb (length f) 33) (JoinAccept 33) (refuse join-length f))
 
 unfoldable pub readData : List ℕ → Reading
-readData f = pick (fitsHeader f) (Data (dataOf f)) (refuse header f)
+readData f = pick (fitsHeader f) (Data (data_of f)) (refuse header f)
 
 unfoldable pub readType : List ℕ → Reading
 readType f =
     pick (eqb (mtype f) 0) (readJoinRequest f)
     (pick (eqb (mtype f) 1) (readJoinAccept f) (pick (ltb (mtype f) 6) (readData f) (refuse type f)))
 
-unfoldable pub readOf : List ℕ → Reading
-readOf f =
-    pick (ltb 255 (length f)) (refuse too-long f)
-    (pick (ltb (length f) 12) (refuse too-short f) (pick (eqb (major f) 0) (readType f) (refuse version f)))
+unfoldable pub read_of : List ℕ → Reading
+read_of f =
+    pick (ltb 255 (length f)) (refuse too_long f)
+    (pick (ltb (length f) 12) (refuse too_short f) (pick (eqb (major f) 0) (readType f) (refuse version f)))

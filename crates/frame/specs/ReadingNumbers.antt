@@ -1,18 +1,17 @@
 -- The numbers and values of docs/RULES.md for each case of the reader's answers, and what a call gives that needs a frame of
 -- another type: a refused reading keeps its number and place, any other answers 4 at place 0.
 -- Assumes nothing.
-use mathlib.Core.Bool.{Bool, true, false}
-use Prim.Native.Nat.{ℕ}
-use Rattle·frame·specs.specs.Refusals.{refused}
-use Rattle·frame·specs.specs.declared.refusals.Refusal.{Refusal}
-use Rattle·frame·specs.specs.declared.parser.FPort.{FPort}
-use Rattle·frame·specs.specs.declared.parser.FPort.the-variants.{Absent, Port}
-use Rattle·frame·specs.specs.declared.parser.FrmPayload.{FrmPayload}
-use Rattle·frame·specs.specs.declared.parser.FrmPayload.the-variants.{Nothing, Data as PlainData, MacCommands}
-use Rattle·frame·specs.specs.declared.parser.DataFrame.{DataFrame}
-use Rattle·frame·specs.specs.declared.numbers.Values.{Values}
-use Rattle·frame·specs.specs.declared.parser.Reading.{Reading}
-use Rattle·frame·specs.specs.declared.parser.Reading.the-variants.{JoinRequest, JoinAccept, Data, Refused}
+use Rattle.std.specs.Prelude.{Bool, true, false, ℕ}
+use Rattle.frame.specs.Refusals.{refused}
+use Rattle.frame.specs.declared.refusals.Refusal.{Refusal}
+use Rattle.frame.specs.declared.parser.FPort.{FPort}
+use Rattle.frame.specs.declared.parser.FPort.TheVariants.{Absent, Port}
+use Rattle.frame.specs.declared.parser.FrmPayload.{FrmPayload}
+use Rattle.frame.specs.declared.parser.FrmPayload.TheVariants.{Nothing, Data as PlainData, MacCommands}
+use Rattle.frame.specs.declared.parser.DataFrame.{DataFrame}
+use Rattle.frame.specs.declared.numbers.Values.{Values}
+use Rattle.frame.specs.declared.parser.Reading.{Reading}
+use Rattle.frame.specs.declared.parser.Reading.TheVariants.{JoinRequest, JoinAccept, Data, Refused}
 
 -- ---- the port: whether it is there, and its number
 
@@ -43,17 +42,17 @@ payloadTo (MacCommands a b) = b
 
 -- ---- a reading: its number (0 where it is accepted), and its place
 
-abbrev pub numberOf : Reading → ℕ
-numberOf JoinRequest = 0
-numberOf (JoinAccept n) = 0
-numberOf (Data d) = 0
-numberOf (Refused r) = r .number
+abbrev pub number_of : Reading → ℕ
+number_of JoinRequest = 0
+number_of (JoinAccept n) = 0
+number_of (Data d) = 0
+number_of (Refused r) = r.number
 
-abbrev pub placeOf : Reading → ℕ
-placeOf JoinRequest = 0
-placeOf (JoinAccept n) = 0
-placeOf (Data d) = 0
-placeOf (Refused r) = r .place
+abbrev pub place_of : Reading → ℕ
+place_of JoinRequest = 0
+place_of (JoinAccept n) = 0
+place_of (Data d) = 0
+place_of (Refused r) = r.place
 
 -- ---- all its values, after the kind: 0 refused, 1 join-request, 2 join-accept, 3 data
 
@@ -63,16 +62,16 @@ plainValues k n p l =
       kind = k;
       number = n;
       place = p;
-      «accept_len» = l;
+      accept_len = l;
       mtype = 0;
       fctrl = 0;
       fcnt = 0;
-      «fopts_end» = 0;
-      «port_given» = false;
+      fopts_end = 0;
+      port_given = false;
       port = 0;
-      «payload_kind» = 0;
-      «payload_from» = 0;
-      «payload_to» = 0;
+      payload_kind = 0;
+      payload_from = 0;
+      payload_to = 0;
       mic = 0;
     }
 
@@ -82,24 +81,24 @@ dataValues d =
       kind = 3;
       number = 0;
       place = 0;
-      «accept_len» = 0;
-      mtype = d .mtype;
-      fctrl = d .fctrl;
-      fcnt = d .fcnt;
-      «fopts_end» = d .«fopts_end»;
-      «port_given» = portGiven (d .port);
-      port = portNumber (d .port);
-      «payload_kind» = payloadKind (d .payload);
-      «payload_from» = payloadFrom (d .payload);
-      «payload_to» = payloadTo (d .payload);
-      mic = d .mic;
+      accept_len = 0;
+      mtype = d.mtype;
+      fctrl = d.fctrl;
+      fcnt = d.fcnt;
+      fopts_end = d.fopts_end;
+      port_given = portGiven d.port;
+      port = portNumber d.port;
+      payload_kind = payloadKind d.payload;
+      payload_from = payloadFrom d.payload;
+      payload_to = payloadTo d.payload;
+      mic = d.mic;
     }
 
 abbrev pub valuesOf : Reading → Values
 valuesOf JoinRequest = plainValues 1 0 0 0
 valuesOf (JoinAccept n) = plainValues 2 0 0 n
 valuesOf (Data d) = dataValues d
-valuesOf (Refused r) = plainValues 0 (r .number) (r .place) 0
+valuesOf (Refused r) = plainValues 0 r.number r.place 0
 
 -- ---- for a call that needs a frame of one type
 

@@ -1,8 +1,8 @@
 -- A refusal by its number and place (docs/RULES.md, Refusals). Beside the values of a record, number 0 says that nothing was
 -- refused.
 -- Assumes nothing.
-use Prim.Native.Nat.{ℕ}
-use Rattle·frame·specs.specs.declared.refusals.Refusal.{Refusal}
+use Rattle.std.specs.Prelude.{ℕ}
+use Rattle.frame.specs.declared.refusals.Refusal.{Refusal}
 
 abbrev pub refusal : ℕ → ℕ → Refusal
 refusal n p = record { number = n; place = p }

@@ -1,30 +1,21 @@
 // The fields of the join messages (LoRaWAN 1.0, sections 6.2.4 and 6.2.5; parser.rs of crate lorawan 0.9.0).
-ghost use mathlib.Core.Path.{_≡_};
-ghost use Prim.Native.Nat.{_+_, _*_, _%_, _≤_};
-ghost use lib.ListN.{length};
-ghost use Rattle·base.specs.Bytes.{tab, part};
-ghost use Rattle·frame·specs.specs.Layout.{cfListAt};
-ghost use Rattle·frame·specs.specs.JoinFields.{requestFields, noRequest, joinRequestFields, cfListOf, frequencyAt, frequenciesOf, masksOf, acceptFields, noAccept, joinAcceptFields};
+ghost use Rattle.std.specs.Prelude.{◌≡◌, ◌+◌, ◌*◌, ◌%◌, ◌≤◌, length};
+ghost use Rattle.base.specs.Bytes.{tab, part};
+ghost use Rattle.frame.specs.Layout.{cfListAt};
+ghost use Rattle.frame.specs.JoinFields.{requestFields, noRequest, joinRequestFields, cfListOf, frequencyAt, frequenciesOf, masksOf, acceptFields, noAccept, joinAcceptFields};
+
 use crate::numbers::other_refusal;
-use crate::packet_length::ACCEPT_ADDR_AT;
-use crate::packet_length::APP_EUI_AT;
-use crate::packet_length::APP_NONCE_AT;
-use crate::packet_length::CF_LIST_AT;
-use crate::packet_length::CF_LIST_TYPE_AT;
-use crate::packet_length::DEV_EUI_AT;
-use crate::packet_length::DEV_NONCE_AT;
-use crate::packet_length::DL_SETTINGS_AT;
-use crate::packet_length::JOIN_ACCEPT_WITH_CFLIST_LEN;
-use crate::packet_length::NET_ID_AT;
-use crate::packet_length::REQUEST_MIC_AT;
-use crate::packet_length::RX_DELAY_AT;
-use crate::parser::Reading;
-use crate::parser::read;
+use crate::packet_length::{
+    ACCEPT_ADDR_AT, APP_EUI_AT, APP_NONCE_AT, CF_LIST_AT, CF_LIST_TYPE_AT, DEV_EUI_AT,
+    DEV_NONCE_AT, DL_SETTINGS_AT, JOIN_ACCEPT_WITH_CFLIST_LEN, NET_ID_AT, REQUEST_MIC_AT,
+    RX_DELAY_AT,
+};
+use crate::parser::{Reading, read};
 use crate::refusals::Refusal;
-use base::storing::four_at;
-use base::storing::three_at;
+use base::storing::{four_at, three_at};
 
 // The fields of a join-request (6.2.4), beside the refusal.
+#[derive(Drop)]
 pub struct JoinRequestFields {
     pub refusal: Refusal,
     pub app_eui: [u8; 8],
@@ -34,6 +25,7 @@ pub struct JoinRequestFields {
 }
 
 // The list that a join-accept holds (6.2.5).
+#[derive(Drop)]
 pub enum CfList {
     Absent,
     Frequencies,
@@ -42,6 +34,7 @@ pub enum CfList {
 
 // The fields of a clear join-accept (6.2.5), beside the refusal. A frequency is in units of
 // 100 Hz; of the two lists, the one that cf_list does not name is zeros.
+#[derive(Drop)]
 pub struct JoinAcceptFields {
     pub refusal: Refusal,
     pub app_nonce: [u8; 3],
@@ -56,15 +49,15 @@ pub struct JoinAcceptFields {
 
 // Parts of a frame, by where each begins.
 fn two_at(frame: &[u8], from: usize) -> [u8; 2]
-    requires { ⌜ from + 2 ≤ length (now frame) ⌝ }
-    ensures { λ r. ⌜ r ≡ part from 2 (now (frame .entry)) ⌝ }
+    requires { from + 2 ≤ length frame.now }
+    ensures { result ≡ part from 2 frame.now }
 {
     [frame[from], frame[from + 1]]
 }
 
 fn eight_at(frame: &[u8], from: usize) -> [u8; 8]
-    requires { ⌜ from + 8 ≤ length (now frame) ⌝ }
-    ensures { λ r. ⌜ r ≡ part from 8 (now (frame .entry)) ⌝ }
+    requires { from + 8 ≤ length frame.now }
+    ensures { result ≡ part from 8 frame.now }
 {
     let mut out = [0u8; 8];
     let mut i = 0;
@@ -76,8 +69,8 @@ fn eight_at(frame: &[u8], from: usize) -> [u8; 8]
 }
 
 fn nine_at(frame: &[u8], from: usize) -> [u8; 9]
-    requires { ⌜ from + 9 ≤ length (now frame) ⌝ }
-    ensures { λ r. ⌜ r ≡ part from 9 (now (frame .entry)) ⌝ }
+    requires { from + 9 ≤ length frame.now }
+    ensures { result ≡ part from 9 frame.now }
 {
     let mut out = [0u8; 9];
     let mut i = 0;
@@ -89,8 +82,8 @@ fn nine_at(frame: &[u8], from: usize) -> [u8; 9]
 }
 
 fn request_fields(frame: &[u8]) -> JoinRequestFields
-    requires { ⌜ length (now frame) ≡ 23 ⌝ }
-    ensures { λ r. ⌜ r ≡ requestFields (now (frame .entry)) ⌝ }
+    requires { length frame.now ≡ 23 }
+    ensures { result ≡ requestFields frame.now }
 {
     let app_eui = eight_at(frame, APP_EUI_AT);
     let dev_eui = eight_at(frame, DEV_EUI_AT);
@@ -109,7 +102,7 @@ fn request_fields(frame: &[u8]) -> JoinRequestFields
 }
 
 fn no_request(refusal: Refusal) -> JoinRequestFields
-    ensures { λ r. ⌜ r ≡ noRequest refusal ⌝ }
+    ensures { result ≡ noRequest refusal }
 {
     JoinRequestFields {
         refusal: refusal,
@@ -122,7 +115,7 @@ fn no_request(refusal: Refusal) -> JoinRequestFields
 
 // The fields of a join-request.
 pub fn join_request_fields(frame: &[u8]) -> JoinRequestFields
-    ensures { λ r. ⌜ r ≡ joinRequestFields (now (frame .entry)) ⌝ }
+    ensures { result ≡ joinRequestFields frame.now }
 {
     let reading = read(frame);
     let Reading::JoinRequest = reading else {
@@ -133,7 +126,7 @@ pub fn join_request_fields(frame: &[u8]) -> JoinRequestFields
 
 // Which list a join-accept holds: its type says it, of 33 bytes.
 fn cf_list(frame: &[u8]) -> CfList
-    ensures { λ r. ⌜ r ≡ cfListOf (now (frame .entry)) ⌝ }
+    ensures { result ≡ cfListOf frame.now }
 {
     if frame.len() == JOIN_ACCEPT_WITH_CFLIST_LEN {
         if frame[CF_LIST_TYPE_AT] == 0 {
@@ -148,14 +141,14 @@ fn cf_list(frame: &[u8]) -> CfList
 
 // Three bytes, low byte first.
 fn frequency(low: u8, middle: u8, high: u8) -> u32
-    ensures { λ r. ⌜ r ≡ low + middle * 256 + high * 65536 ⌝ }
+    ensures { result ≡ low + middle * 256 + high * 65536 }
 {
     (low as u32) + (middle as u32) * 256 + (high as u32) * 65536
 }
 
 fn five_frequencies(frame: &[u8]) -> [u32; 5]
-    requires { ⌜ length (now frame) ≡ 33 ⌝ }
-    ensures { λ r. ⌜ r ≡ tab 5 (λ i. frequencyAt (now (frame .entry)) (cfListAt + 3 * i)) ⌝ }
+    requires { length frame.now ≡ 33 }
+    ensures { result ≡ tab 5 (λ i. frequencyAt frame.now (cfListAt + 3 * i)) }
 {
     let mut out = [0u32; 5];
     let mut i = 0;
@@ -169,7 +162,7 @@ fn five_frequencies(frame: &[u8]) -> [u32; 5]
 }
 
 fn frequencies(frame: &[u8]) -> [u32; 5]
-    ensures { λ r. ⌜ r ≡ frequenciesOf (now (frame .entry)) ⌝ }
+    ensures { result ≡ frequenciesOf frame.now }
 {
     if frame.len() == JOIN_ACCEPT_WITH_CFLIST_LEN {
         if frame[CF_LIST_TYPE_AT] == 0 {
@@ -180,7 +173,7 @@ fn frequencies(frame: &[u8]) -> [u32; 5]
 }
 
 fn masks(frame: &[u8]) -> [u8; 9]
-    ensures { λ r. ⌜ r ≡ masksOf (now (frame .entry)) ⌝ }
+    ensures { result ≡ masksOf frame.now }
 {
     if frame.len() == JOIN_ACCEPT_WITH_CFLIST_LEN {
         if frame[CF_LIST_TYPE_AT] == 1 {
@@ -191,8 +184,8 @@ fn masks(frame: &[u8]) -> [u8; 9]
 }
 
 fn accept_fields(frame: &[u8]) -> JoinAcceptFields
-    requires { ⌜ 17 ≤ length (now frame) ⌝ }
-    ensures { λ r. ⌜ r ≡ acceptFields (now (frame .entry)) ⌝ }
+    requires { 17 ≤ length frame.now }
+    ensures { result ≡ acceptFields frame.now }
 {
     let app_nonce = three_at(frame, APP_NONCE_AT);
     let net_id = three_at(frame, NET_ID_AT);
@@ -217,7 +210,7 @@ fn accept_fields(frame: &[u8]) -> JoinAcceptFields
 }
 
 fn no_accept(refusal: Refusal) -> JoinAcceptFields
-    ensures { λ r. ⌜ r ≡ noAccept refusal ⌝ }
+    ensures { result ≡ noAccept refusal }
 {
     JoinAcceptFields {
         refusal: refusal,
@@ -234,7 +227,7 @@ fn no_accept(refusal: Refusal) -> JoinAcceptFields
 
 // The fields of a join-accept that was decrypted.
 pub fn join_accept_fields(frame: &[u8]) -> JoinAcceptFields
-    ensures { λ r. ⌜ r ≡ joinAcceptFields (now (frame .entry)) ⌝ }
+    ensures { result ≡ joinAcceptFields frame.now }
 {
     let reading = read(frame);
     let Reading::JoinAccept(_) = reading else {

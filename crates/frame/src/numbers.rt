@@ -1,17 +1,15 @@
 // What a reading answers, in numbers: the refusal of a call that needs a frame of another type, and all of a reading as one
 // record.
-ghost use mathlib.Core.Path.{_≡_};
-ghost use Rattle·frame·specs.specs.Refusals.{refused};
-ghost use Rattle·frame·specs.specs.ReadingNumbers.{portGiven, portNumber, payloadKind, payloadFrom, payloadTo, otherRefusal, plainValues, dataValues, valuesOf};
-use crate::parser::DataFrame;
-use crate::parser::FPort;
-use crate::parser::FrmPayload;
-use crate::parser::Reading;
-use crate::refusals::INVALID_DATA;
-use crate::refusals::Refusal;
+ghost use Rattle.std.specs.Prelude.{◌≡◌};
+ghost use Rattle.frame.specs.Refusals.{refused};
+ghost use Rattle.frame.specs.ReadingNumbers.{portGiven, portNumber, payloadKind, payloadFrom, payloadTo, otherRefusal, plainValues, dataValues, valuesOf};
+
+use crate::parser::{DataFrame, FPort, FrmPayload, Reading};
+use crate::refusals::{INVALID_DATA, Refusal};
 
 // A reading as plain numbers, for callers that know no enum. kind is 0 of a refusal, 1 of a join-request, 2 of a
 // join-accept, 3 of data; payload_kind is 0 of none, 1 of data, 2 of commands. What a kind does not have is 0.
+#[derive(Drop)]
 pub struct Values {
     pub kind: u8,
     pub number: u8,
@@ -30,7 +28,7 @@ pub struct Values {
 }
 
 fn other_type() -> Refusal
-    ensures { λ r. ⌜ r ≡ refused 4 ⌝ }
+    ensures { result ≡ refused 4 }
 {
     Refusal {
         number: INVALID_DATA,
@@ -40,7 +38,7 @@ fn other_type() -> Refusal
 
 // What a call is refused by that needs a frame of another type: a refused reading keeps its own number and place.
 pub fn other_refusal(reading: Reading) -> Refusal
-    ensures { λ r. ⌜ r ≡ otherRefusal reading ⌝ }
+    ensures { result ≡ otherRefusal reading }
 {
     match reading {
         Reading::JoinRequest => other_type(),
@@ -52,7 +50,7 @@ pub fn other_refusal(reading: Reading) -> Refusal
 
 // Whether a port is reported.
 fn port_given(port: FPort) -> bool
-    ensures { λ r. ⌜ r ≡ portGiven port ⌝ }
+    ensures { result ≡ portGiven port }
 {
     match port {
         FPort::Absent => false,
@@ -62,7 +60,7 @@ fn port_given(port: FPort) -> bool
 
 // The port that is reported, and 0 where there is none.
 fn port_number(port: FPort) -> u8
-    ensures { λ r. ⌜ r ≡ portNumber port ⌝ }
+    ensures { result ≡ portNumber port }
 {
     match port {
         FPort::Absent => 0,
@@ -72,7 +70,7 @@ fn port_number(port: FPort) -> u8
 
 // The kind of a payload: 0 none, 1 data, 2 commands.
 fn payload_kind(payload: FrmPayload) -> u8
-    ensures { λ r. ⌜ r ≡ payloadKind payload ⌝ }
+    ensures { result ≡ payloadKind payload }
 {
     match payload {
         FrmPayload::Nothing => 0,
@@ -83,7 +81,7 @@ fn payload_kind(payload: FrmPayload) -> u8
 
 // The place of a payload's first byte.
 fn payload_from(payload: FrmPayload) -> usize
-    ensures { λ r. ⌜ r ≡ payloadFrom payload ⌝ }
+    ensures { result ≡ payloadFrom payload }
 {
     match payload {
         FrmPayload::Nothing => 0,
@@ -94,7 +92,7 @@ fn payload_from(payload: FrmPayload) -> usize
 
 // The place past a payload's last byte.
 fn payload_to(payload: FrmPayload) -> usize
-    ensures { λ r. ⌜ r ≡ payloadTo payload ⌝ }
+    ensures { result ≡ payloadTo payload }
 {
     match payload {
         FrmPayload::Nothing => 0,
@@ -105,7 +103,7 @@ fn payload_to(payload: FrmPayload) -> usize
 
 // The numbers of a reading with no data.
 fn plain_values(kind: u8, number: u8, place: usize, accept_len: usize) -> Values
-    ensures { λ r. ⌜ r ≡ plainValues kind number place «accept_len» ⌝ }
+    ensures { result ≡ plainValues kind number place accept_len }
 {
     Values {
         kind: kind,
@@ -126,7 +124,7 @@ fn plain_values(kind: u8, number: u8, place: usize, accept_len: usize) -> Values
 }
 
 fn data_values(d: DataFrame) -> Values
-    ensures { λ r. ⌜ r ≡ dataValues d ⌝ }
+    ensures { result ≡ dataValues d }
 {
     let port = d.port;
     let payload = d.payload;
@@ -150,7 +148,7 @@ fn data_values(d: DataFrame) -> Values
 
 // All the numbers of a reading.
 pub fn values_of(reading: Reading) -> Values
-    ensures { λ r. ⌜ r ≡ valuesOf reading ⌝ }
+    ensures { result ≡ valuesOf reading }
 {
     match reading {
         Reading::JoinRequest => plain_values(1, 0, 0, 0),

@@ -1,24 +1,15 @@
 // A reading as one number of 64 bits. A data frame is read straight into it; what is none, `read` answers.
-ghost use mathlib.Core.Path.{_≡_};
-ghost use Prim.Native.Nat.{_+_, _*_, _/_, _%_, _≤_, _<_};
-ghost use lib.Dec.{eqb};
-ghost use lib.ListN.{length};
-ghost use Rattle·base.specs.Bytes.{pick};
-ghost use Rattle·frame·specs.specs.Conditions.{IsData};
-ghost use Rattle·frame·specs.specs.Layout.{fhdrLength};
-ghost use Rattle·frame·specs.specs.Reading.{readOf};
-ghost use Rattle·frame·specs.specs.PackedReading.{packed, bitsOfJoin, packedOf, numbered, portBits};
-use crate::packet_length::FCNT_AT;
-use crate::packet_length::FCTRL_AT;
-use crate::packet_length::JOIN_REQUEST_LEN;
-use crate::packet_length::MIC_LEN;
-use crate::packet_length::PHY_PAYLOAD_MAX_LEN;
-use crate::packet_length::PHY_PAYLOAD_MIN_LEN;
-use crate::parser::Reading;
-use crate::parser::fhdr_length;
-use crate::parser::has_port;
-use crate::parser::read;
-use crate::parser::read_fcnt;
+ghost use Rattle.std.specs.Prelude.{◌≡◌, ◌+◌, ◌*◌, ◌/◌, ◌%◌, ◌≤◌, ◌<◌, eqb, length};
+ghost use Rattle.base.specs.Bytes.{pick};
+ghost use Rattle.frame.specs.Conditions.{IsData};
+ghost use Rattle.frame.specs.Layout.{fhdrLength};
+ghost use Rattle.frame.specs.Reading.{read_of};
+ghost use Rattle.frame.specs.PackedReading.{packed, bitsOfJoin, packedOf, numbered, portBits};
+
+use crate::packet_length::{
+    FCNT_AT, FCTRL_AT, JOIN_REQUEST_LEN, MIC_LEN, PHY_PAYLOAD_MAX_LEN, PHY_PAYLOAD_MIN_LEN,
+};
+use crate::parser::{Reading, fhdr_length, has_port, read, read_fcnt};
 
 // One in each field, by the bit that it begins at.
 const VALUE: u64 = 256;
@@ -50,25 +41,25 @@ const COMMANDS: u64 = PORT_GIVEN + 2 * PAYLOAD_KIND + PAYLOAD_AT;
 // A number in the low byte, and above it a value: the place of a refusal, or the length of a frame. Past 2^56 the value's high
 // bits are lost.
 pub fn numbered_bits(number: u8, value: usize) -> u64
-    ensures { λ r. ⌜ r ≡ numbered number value ⌝ }
+    ensures { result ≡ numbered number value }
 {
     (number as u64) + (value as u64) % VALUES * VALUE
 }
 
 // A join message: its type, and the place of its MIC, which stands for that of the payload too.
 fn join_bits(mtype: u8, n: usize) -> u64
-    requires { ⌜ mtype < 8 ⌝ }
-    requires { ⌜ 4 ≤ n ⌝ }
-    requires { ⌜ n < 256 ⌝ }
-    ensures { λ r. ⌜ r ≡ packed (bitsOfJoin mtype n) ⌝ }
+    requires mtype_bound { mtype < 8 }
+    requires le_n { 4 ≤ n }
+    requires n_bound { n < 256 }
+    ensures { result ≡ packed (bitsOfJoin mtype n) }
 {
     (mtype as u64) * TYPE + ((n - MIC_LEN) as u64) * (PAYLOAD_AT + MIC_AT)
 }
 
 // What is no data frame, by the reader's answer.
 fn other_bits(frame: &[u8]) -> u64
-    requires { ⌜ (IsData (now frame) → ⊥) ⌝ }
-    ensures { λ r. ⌜ r ≡ packedOf (readOf (now (frame .entry))) ⌝ }
+    requires { IsData frame.now → ⊥ }
+    ensures { result ≡ packedOf (read_of frame.now) }
 {
     let reading = read(frame);
     match reading {
@@ -81,23 +72,23 @@ fn other_bits(frame: &[u8]) -> u64
 
 // Types 2 to 5, those of data, become 0 to 3; the others lie above.
 fn past_data(first: u8) -> u8
-    ensures { λ r. ⌜ r ≡ (first / 32 + 6) % 8 ⌝ }
-    ensures { λ _. ⌜ first < 256 ⌝ }
+    ensures value { result ≡ (first / 32 + 6) % 8 }
+    ensures first_bound { first < 256 }
 {
     (first / 32 + 6) % 8
 }
 
 fn wide(b: u8) -> u64
-    ensures { λ r. ⌜ r ≡ b ⌝ }
-    ensures { λ r. ⌜ r < 256 ⌝ }
+    ensures value { result ≡ b }
+    ensures upper_bound { result < 256 }
 {
     b as u64
 }
 
 // Of a port that is there: that it is, the kind of the payload, the port, and that one byte lies between FOpts and payload.
 fn held_bits(port: u8) -> u64
-    ensures { λ r. ⌜ r ≡ pick (eqb port 0) 16787456 (port * 65536 + 16783360) ⌝ }
-    ensures { λ r. ⌜ r < 67108864 ⌝ }
+    ensures value { result ≡ pick (eqb port 0) 16787456 (port * 65536 + 16783360) }
+    ensures upper_bound { result < 67108864 }
 {
     if port == 0 {
         return COMMANDS;
@@ -107,10 +98,10 @@ fn held_bits(port: u8) -> u64
 
 // The same of a frame, which may have no port.
 fn port_bits(frame: &[u8], h: usize) -> u64
-    requires { ⌜ h ≡ fhdrLength (now frame) ⌝ }
-    requires { ⌜ 5 + h ≤ length (now frame) ⌝ }
-    ensures { λ r. ⌜ r ≡ portBits (now (frame .entry)) ⌝ }
-    ensures { λ r. ⌜ r < 67108864 ⌝ }
+    requires h_value { h ≡ fhdrLength frame.now }
+    requires h_in_bounds { 5 + h ≤ length frame.now }
+    ensures value { result ≡ portBits frame.now }
+    ensures upper_bound { result < 67108864 }
 {
     if has_port(frame, h) {
         return held_bits(frame[1 + h]);
@@ -120,26 +111,26 @@ fn port_bits(frame: &[u8], h: usize) -> u64
 
 // FCtrl and FCnt at their bits.
 fn counter_bits(fctrl: u8, fcnt: u16) -> u64
-    ensures { λ r. ⌜ r ≡ fctrl * 1099511627776 + fcnt * 281474976710656 ⌝ }
+    ensures { result ≡ fctrl * 1099511627776 + fcnt * 281474976710656 }
 {
     (fctrl as u64) * FCTRL + (fcnt as u64) * FCNT
 }
 
 // The type, the places past FOpts and of the MIC, and what counter_bits and port_bits give.
 fn data_bits(mtype: u8, fopts_end: usize, mic: usize, counter: u64, port: u64) -> u64
-    requires { ⌜ mtype < 8 ⌝ }
-    requires { ⌜ «fopts_end» < 64 ⌝ }
-    requires { ⌜ mic < 255 ⌝ }
-    requires { ⌜ counter ≤ 18446742974197923840 ⌝ }
-    requires { ⌜ port < 67108864 ⌝ }
-    ensures { λ r. ⌜ r ≡ mtype * 256 + «fopts_end» * 16777216 + mic * 4294967296 + counter + port ⌝ }
+    requires mtype_bound { mtype < 8 }
+    requires fopts_end_bound { fopts_end < 64 }
+    requires mic_bound { mic < 255 }
+    requires counter_bound { counter ≤ 18446742974197923840 }
+    requires port_bound { port < 67108864 }
+    ensures { result ≡ mtype * 256 + fopts_end * 16777216 + mic * 4294967296 + counter + port }
 {
     (mtype as u64) * TYPE + (fopts_end as u64) * PAYLOAD_AT + (mic as u64) * MIC_AT + counter + port
 }
 
 // Reading a frame, as one number.
 pub fn read_packed(frame: &[u8]) -> u64
-    ensures { λ r. ⌜ r ≡ packedOf (readOf (now (frame .entry))) ⌝ }
+    ensures { result ≡ packedOf (read_of frame.now) }
 {
     let n = frame.len();
     if PHY_PAYLOAD_MAX_LEN < n {

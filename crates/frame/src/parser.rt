@@ -1,37 +1,31 @@
 // Reading a frame (parser.rs of the crate, as far as reading goes).
-ghost use mathlib.Core.Path.{_≡_};
-ghost use Prim.Native.Nat.{_+_, _*_, _%_, _≤_, min};
-ghost use lib.ListN.{length};
-ghost use Rattle·frame·specs.specs.Layout.{fhdrLength, hasPort};
-ghost use Rattle·frame·specs.specs.Refusals.{refusal};
-ghost use Rattle·frame·specs.specs.Reading.{portOf, heldBy, payloadOf, readJoinRequest, readJoinAccept, readData, readType, readOf};
-ghost use Rattle·frame·specs.specs.declared.parser.FPort.the-variants.{Port};
-ghost use Rattle·frame·specs.specs.declared.parser.Reading.the-variants.{Refused};
-use crate::packet_length::FCNT_AT;
-use crate::packet_length::FCTRL_AT;
-use crate::packet_length::FHDR_MIN_LEN;
-use crate::packet_length::JOIN_ACCEPT_LEN;
-use crate::packet_length::JOIN_ACCEPT_WITH_CFLIST_LEN;
-use crate::packet_length::JOIN_REQUEST_LEN;
-use crate::packet_length::MIC_LEN;
-use crate::packet_length::PHY_PAYLOAD_MAX_LEN;
-use crate::packet_length::PHY_PAYLOAD_MIN_LEN;
-use crate::refusals::FRAME_TOO_LONG;
-use crate::refusals::INVALID_DATA;
-use crate::refusals::INVALID_MESSAGE_TYPE;
-use crate::refusals::INVALID_PAYLOAD;
-use crate::refusals::Refusal;
-use crate::refusals::UNSUPPORTED_MAJOR_VERSION;
+ghost use Rattle.std.specs.Prelude.{◌≡◌, ◌+◌, ◌*◌, ◌%◌, ◌≤◌, min, length};
+ghost use Rattle.frame.specs.Layout.{fhdrLength, hasPort};
+ghost use Rattle.frame.specs.Refusals.{refusal};
+ghost use Rattle.frame.specs.Reading.{portOf, heldBy, payloadOf, readJoinRequest, readJoinAccept, readData, readType, read_of};
+ghost use Rattle.frame.specs.declared.parser.FPort.TheVariants.{Port};
+ghost use Rattle.frame.specs.declared.parser.Reading.TheVariants.{Refused};
+
+use crate::packet_length::{
+    FCNT_AT, FCTRL_AT, FHDR_MIN_LEN, JOIN_ACCEPT_LEN, JOIN_ACCEPT_WITH_CFLIST_LEN,
+    JOIN_REQUEST_LEN, MIC_LEN, PHY_PAYLOAD_MAX_LEN, PHY_PAYLOAD_MIN_LEN,
+};
+use crate::refusals::{
+    FRAME_TOO_LONG, INVALID_DATA, INVALID_MESSAGE_TYPE, INVALID_PAYLOAD, Refusal,
+    UNSUPPORTED_MAJOR_VERSION,
+};
 use base::storing::wide;
 use frame_bits::fctrl::message_type;
 
 // The port that a data frame reports (4.3.2).
+#[derive(Drop)]
 pub enum FPort {
     Absent,
     Port(u8),
 }
 
 // The payload of a data frame (4.3.3), by its first byte's place and the place past its last.
+#[derive(Drop)]
 pub enum FrmPayload {
     Nothing,
     Data(usize, usize),
@@ -40,6 +34,7 @@ pub enum FrmPayload {
 
 // What a data frame holds: its type (2 to 5), FCtrl, FCnt, and where each part lies that has no fixed place. FOpts are
 // the bytes from 8 up to fopts_end, the MIC the four from mic on.
+#[derive(Drop)]
 pub struct DataFrame {
     pub mtype: u8,
     pub fctrl: u8,
@@ -51,6 +46,7 @@ pub struct DataFrame {
 }
 
 // What reading gives: the kind of the frame with its values, or a refusal.
+#[derive(Drop)]
 pub enum Reading {
     JoinRequest,
     JoinAccept(usize),
@@ -60,7 +56,7 @@ pub enum Reading {
 
 // The length of FHDR by its FCtrl byte (4.3.1): seven bytes and FOpts.
 pub fn fhdr_length(fctrl: u8) -> usize
-    ensures { λ r. ⌜ r ≡ 7 + fctrl % 16 ⌝ }
+    ensures { result ≡ 7 + fctrl % 16 }
 {
     FHDR_MIN_LEN + wide(fctrl % 16)
 }
@@ -68,7 +64,7 @@ pub fn fhdr_length(fctrl: u8) -> usize
 // Where the payload of a data frame begins, by where its FOpts end and its MIC begins: past the port, or at the MIC where
 // there is none.
 pub fn header_end(fopts_end: usize, mic: usize) -> usize
-    ensures { λ r. ⌜ r ≡ min («fopts_end» + 1) mic ⌝ }
+    ensures { result ≡ min (fopts_end + 1) mic }
 {
     if fopts_end < mic {
         return fopts_end + 1;
@@ -78,24 +74,24 @@ pub fn header_end(fopts_end: usize, mic: usize) -> usize
 
 // FCnt of its two bytes, low byte first (4.3.1.5).
 pub(crate) fn read_fcnt(low: u8, high: u8) -> u16
-    ensures { λ r. ⌜ r ≡ low + high * 256 ⌝ }
+    ensures { result ≡ low + high * 256 }
 {
     (low as u16) + (high as u16) * 256
 }
 
 // Whether a port is there, behind an FHDR of h bytes (4.3.2).
 pub(crate) fn has_port(frame: &[u8], h: usize) -> bool
-    requires { ⌜ h ≡ fhdrLength (now frame) ⌝ }
-    ensures { λ r. ⌜ r ≡ hasPort (now (frame .entry)) ⌝ }
+    requires { h ≡ fhdrLength frame.now }
+    ensures { result ≡ hasPort frame.now }
 {
     h + 6 <= frame.len()
 }
 
 // The port, where it is there.
 fn read_port(frame: &[u8], h: usize) -> FPort
-    requires { ⌜ h ≡ fhdrLength (now frame) ⌝ }
-    requires { ⌜ 5 + h ≤ length (now frame) ⌝ }
-    ensures { λ r. ⌜ r ≡ portOf (now (frame .entry)) ⌝ }
+    requires h_value { h ≡ fhdrLength frame.now }
+    requires h_in_bounds { 5 + h ≤ length frame.now }
+    ensures { result ≡ portOf frame.now }
 {
     if has_port(frame, h) {
         return FPort::Port(frame[1 + h]);
@@ -105,7 +101,7 @@ fn read_port(frame: &[u8], h: usize) -> FPort
 
 // What a port says of the bytes behind it: commands on port 0, data on another (4.3.3).
 fn held_by(port: u8, start: usize, end: usize) -> FrmPayload
-    ensures { λ r. ⌜ r ≡ heldBy (Port port) start end ⌝ }
+    ensures { result ≡ heldBy (Port port) start end }
 {
     if port == 0 {
         return FrmPayload::MacCommands(start, end);
@@ -115,9 +111,9 @@ fn held_by(port: u8, start: usize, end: usize) -> FrmPayload
 
 // The payload, where there is a port.
 fn read_payload(frame: &[u8], h: usize) -> FrmPayload
-    requires { ⌜ h ≡ fhdrLength (now frame) ⌝ }
-    requires { ⌜ 5 + h ≤ length (now frame) ⌝ }
-    ensures { λ r. ⌜ r ≡ payloadOf (now (frame .entry)) ⌝ }
+    requires h_value { h ≡ fhdrLength frame.now }
+    requires h_in_bounds { 5 + h ≤ length frame.now }
+    ensures { result ≡ payloadOf frame.now }
 {
     if has_port(frame, h) {
         return held_by(frame[1 + h], h + 2, frame.len() - MIC_LEN);
@@ -126,14 +122,14 @@ fn read_payload(frame: &[u8], h: usize) -> FrmPayload
 }
 
 fn refused(number: u8, place: usize) -> Reading
-    ensures { λ r. ⌜ r ≡ Refused (refusal number place) ⌝ }
+    ensures { result ≡ Refused (refusal number place) }
 {
     Reading::Refused(Refusal { number, place })
 }
 
 // By the type, of a frame that is long enough for the smallest.
 fn read_join_request(frame: &[u8]) -> Reading
-    ensures { λ r. ⌜ r ≡ readJoinRequest (now (frame .entry)) ⌝ }
+    ensures { result ≡ readJoinRequest frame.now }
 {
     if frame.len() == JOIN_REQUEST_LEN {
         return Reading::JoinRequest;
@@ -142,7 +138,7 @@ fn read_join_request(frame: &[u8]) -> Reading
 }
 
 fn read_join_accept(frame: &[u8]) -> Reading
-    ensures { λ r. ⌜ r ≡ readJoinAccept (now (frame .entry)) ⌝ }
+    ensures { result ≡ readJoinAccept frame.now }
 {
     let n = frame.len();
     if n == JOIN_ACCEPT_LEN {
@@ -155,8 +151,8 @@ fn read_join_accept(frame: &[u8]) -> Reading
 }
 
 fn read_data(frame: &[u8]) -> Reading
-    requires { ⌜ 12 ≤ length (now frame) ⌝ }
-    ensures { λ r. ⌜ r ≡ readData (now (frame .entry)) ⌝ }
+    requires { 12 ≤ length frame.now }
+    ensures { result ≡ readData frame.now }
 {
     let h = fhdr_length(frame[FCTRL_AT]);
     if frame.len() < 5 + h {
@@ -178,8 +174,8 @@ fn read_data(frame: &[u8]) -> Reading
 }
 
 fn read_type(frame: &[u8]) -> Reading
-    requires { ⌜ 12 ≤ length (now frame) ⌝ }
-    ensures { λ r. ⌜ r ≡ readType (now (frame .entry)) ⌝ }
+    requires { 12 ≤ length frame.now }
+    ensures { result ≡ readType frame.now }
 {
     let mtype = message_type(frame[0]);
     if mtype == 0 {
@@ -197,7 +193,7 @@ fn read_type(frame: &[u8]) -> Reading
 // Reading a frame: the first refusal that applies, of 12, 1, 2, 3 and 4, at the index of the byte whose rule failed, or what
 // the frame holds. Bits 2 to 4 of byte 0 count for nothing.
 pub fn read(frame: &[u8]) -> Reading
-    ensures { λ r. ⌜ r ≡ readOf (now (frame .entry)) ⌝ }
+    ensures { result ≡ read_of frame.now }
 {
     if PHY_PAYLOAD_MAX_LEN < frame.len() {
         return refused(FRAME_TOO_LONG, frame.len());

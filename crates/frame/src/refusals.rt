@@ -38,6 +38,7 @@ pub const VALUE_OUT_OF_RANGE: u8 = 18;
 
 // A refusal: its number, and the place that the rules name, 0 where they name none. In a record that holds one beside its
 // values, number 0 says that nothing was refused.
+#[derive(Drop)]
 pub struct Refusal {
     pub number: u8,
     pub place: usize,

@@ -1,37 +1,36 @@
 // The control byte of a data frame, and what a message type and an address say by themselves (LoRaWAN 1.0, sections
 // 4.2.1, 4.3.1 and 6.1.1; parser.rs of crate lorawan 0.9.0).
-ghost use mathlib.Core.Path.{_≡_};
-ghost use Prim.Native.Nat.{_/_, _%_, _<_};
-ghost use lib.Dec.{eqb};
-ghost use Rattle·frame_bits·specs.specs.Fctrl.{fctrlOf, adrOf, adrAckReqOf, ackOf, fPendingOf, fOptsLenOf, withBitOf, uplinkOf, confirmedOf, nwkIdOf};
+ghost use Rattle.std.specs.Prelude.{◌≡◌, ◌/◌, ◌%◌, ◌<◌, eqb};
+ghost use Rattle.frame_bits.specs.Fctrl.{fctrlOf, adrOf, adrAckReqOf, ackOf, fPendingOf, fOptsLenOf, withBitOf, uplinkOf, confirmedOf, nwkIdOf};
 
 // FCtrl of a data frame (4.3.1): its byte, and whether the frame goes up.
+#[derive(Drop)]
 pub struct FCtrl(pub u8, pub bool);
 
 // Whether a byte has the bit of value b.
 fn has_bit(v: u8, b: u8) -> bool
-    requires { ⌜ 0 < b ⌝ }
-    ensures { λ r. ⌜ r ≡ eqb (v / b % 2) 1 ⌝ }
+    requires { 0 < b }
+    ensures { result ≡ eqb (v / b % 2) 1 }
 {
     v / b % 2 == 1
 }
 
 impl FCtrl {
     pub fn new(value: u8, uplink: bool) -> FCtrl
-        ensures { λ r. ⌜ r ≡ fctrlOf value uplink ⌝ }
+        ensures { result ≡ fctrlOf value uplink }
     {
         FCtrl(value, uplink)
     }
 
     pub fn adr(self) -> bool
-        ensures { λ r. ⌜ r ≡ adrOf self ⌝ }
+        ensures { result ≡ adrOf self }
     {
         has_bit(self.0, 128)
     }
 
     // Only frames that go up request an acknowledgement of ADR.
     pub fn adr_ack_req(self) -> bool
-        ensures { λ r. ⌜ r ≡ adrAckReqOf self ⌝ }
+        ensures { result ≡ adrAckReqOf self }
     {
         let uplink = self.1;
         if uplink {
@@ -41,14 +40,14 @@ impl FCtrl {
     }
 
     pub fn ack(self) -> bool
-        ensures { λ r. ⌜ r ≡ ackOf self ⌝ }
+        ensures { result ≡ ackOf self }
     {
         has_bit(self.0, 32)
     }
 
     // Only frames that go down say that more is to come.
     pub fn f_pending(self) -> bool
-        ensures { λ r. ⌜ r ≡ fPendingOf self ⌝ }
+        ensures { result ≡ fPendingOf self }
     {
         let uplink = self.1;
         if uplink {
@@ -58,37 +57,37 @@ impl FCtrl {
     }
 
     pub fn f_opts_len(self) -> u8
-        ensures { λ r. ⌜ r ≡ fOptsLenOf self ⌝ }
+        ensures { result ≡ fOptsLenOf self }
     {
         self.0 % 16
     }
 
     pub fn raw_value(self) -> u8
-        ensures { λ r. ⌜ r ≡ self .0 ⌝ }
+        ensures { result ≡ self.0 }
     {
         self.0
     }
 
     pub fn with_adr(self) -> FCtrl
-        ensures { λ r. ⌜ r ≡ withBitOf 128 self ⌝ }
+        ensures { result ≡ withBitOf 128 self }
     {
         FCtrl(self.0 | 128, self.1)
     }
 
     pub fn with_adr_ack_req(self) -> FCtrl
-        ensures { λ r. ⌜ r ≡ withBitOf 64 self ⌝ }
+        ensures { result ≡ withBitOf 64 self }
     {
         FCtrl(self.0 | 64, self.1)
     }
 
     pub fn with_ack(self) -> FCtrl
-        ensures { λ r. ⌜ r ≡ withBitOf 32 self ⌝ }
+        ensures { result ≡ withBitOf 32 self }
     {
         FCtrl(self.0 | 32, self.1)
     }
 
     pub fn with_f_pending(self) -> FCtrl
-        ensures { λ r. ⌜ r ≡ withBitOf 16 self ⌝ }
+        ensures { result ≡ withBitOf 16 self }
     {
         FCtrl(self.0 | 16, self.1)
     }
@@ -96,7 +95,7 @@ impl FCtrl {
 
 // Whether a data frame of the type goes up, and whether it is confirmed (4.2.1).
 pub fn is_uplink(mtype: u8) -> bool
-    ensures { λ r. ⌜ r ≡ uplinkOf mtype ⌝ }
+    ensures { result ≡ uplinkOf mtype }
 {
     if mtype == 2 {
         return true;
@@ -105,7 +104,7 @@ pub fn is_uplink(mtype: u8) -> bool
 }
 
 pub fn is_confirmed(mtype: u8) -> bool
-    ensures { λ r. ⌜ r ≡ confirmedOf mtype ⌝ }
+    ensures { result ≡ confirmedOf mtype }
 {
     if mtype == 4 {
         return true;
@@ -116,14 +115,14 @@ pub fn is_confirmed(mtype: u8) -> bool
 // NwkID of an address (6.1.1): its seven high bits, which stand in its last byte in frame order. The crate takes the first byte
 // (docs/DIFFERENCES.md).
 pub fn nwk_id(dev_addr: [u8; 4]) -> u8
-    ensures { λ r. ⌜ r ≡ nwkIdOf «dev_addr» ⌝ }
+    ensures { result ≡ nwkIdOf dev_addr }
 {
     dev_addr[3] >> 1
 }
 
 // The message type of a frame's first byte (4.2.1): its three high bits.
 pub fn message_type(mhdr: u8) -> u8
-    ensures { λ r. ⌜ r ≡ mhdr / 32 ⌝ }
+    ensures { result ≡ mhdr / 32 }
 {
     mhdr >> 5
 }

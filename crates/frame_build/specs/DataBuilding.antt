@@ -1,15 +1,11 @@
 -- What building gives, from LoRaWAN 1.0 section 4 (docs/RULES.md, Building): tests in their order, and of data frames the
 -- clear bytes and the refusals.
 -- Assumes nothing.
-use mathlib.Core.Bool.{Bool, true, false, not}
-use mathlib.Core.List.{List, [], _∷_, _++_}
-use Prim.Native.Nat.{ℕ, _+_, _/_, _%_}
-use lib.Dec.{ltb, eqb}
-use lib.ListN.{length}
-use Rattle·base.specs.Bytes.{pick}
-use Rattle·frame.specs.declared.parser.FPort.{FPort}
-use Rattle·frame.specs.declared.parser.FPort.the-variants.{Absent, Port}
-use Rattle·frame_build·specs.specs.declared.creator.data_frame.DataParts.{DataParts}
+use Rattle.std.specs.Prelude.{Bool, true, false, not, List, [], ◌∷◌, ◌++◌, ℕ, ◌+◌, ◌/◌, ◌%◌, ltb, eqb, length}
+use Rattle.base.specs.Bytes.{pick}
+use Rattle.frame.specs.declared.parser.FPort.{FPort}
+use Rattle.frame.specs.declared.parser.FPort.TheVariants.{Absent, Port}
+use Rattle.frame_build.specs.declared.creator.data_frame.DataParts.{DataParts}
 
 -- ---- tests in their order
 
@@ -20,9 +16,9 @@ abbrev pub either : Bool → Bool → Bool
 either a b = pick a true b
 
 -- the number of the first test that holds; 0 where none does
-abbrev pub firstOf : List (Bool × ℕ) → ℕ
-firstOf [] = 0
-firstOf (t ∷ ts) = pick (t .0) (t .1) (firstOf ts)
+abbrev pub first_of : List (Bool × ℕ) → ℕ
+first_of [] = 0
+first_of (t ∷ ts) = pick t.0 t.1 (first_of ts)
 
 -- ---- data frames (4.3)
 
@@ -39,32 +35,32 @@ abbrev pub isAbsent : FPort → Bool
 isAbsent Absent = true
 isAbsent (Port p) = false
 
-abbrev pub isZero : FPort → Bool
-isZero Absent = false
-isZero (Port p) = eqb p 0
+abbrev pub is_zero : FPort → Bool
+is_zero Absent = false
+is_zero (Port p) = eqb p 0
 
 -- 4.3.1 commands go into FOpts, on port 0 into the payload
 abbrev pub foptsOf : FPort → List ℕ → List ℕ
-foptsOf port commands = pick (isZero port) [] commands
+foptsOf port commands = pick (is_zero port) [] commands
 
-abbrev pub bodyOf : FPort → List ℕ → List ℕ → List ℕ
-bodyOf port commands body = pick (isZero port) commands body
+abbrev pub body_of : FPort → List ℕ → List ℕ → List ℕ
+body_of port commands body = pick (is_zero port) commands body
 
 -- MHDR, DevAddr, FCtrl with FOptsLen in its low nibble, FCnt low byte first: the eight bytes that every data frame
 -- begins with
 unfoldable pub fixedHeader : DataParts → ℕ → List ℕ
 fixedHeader d foptsLength =
-    mhdrOf (d .confirmed) (d .uplink)
-    ∷ (d .«dev_addr» ++ (d .fctrl + foptsLength) ∷ (d .fcnt % 256) ∷ (d .fcnt / 256 % 256) ∷ [])
+    mhdrOf d.confirmed d.uplink
+    ∷ (d.dev_addr ++ (d.fctrl + foptsLength) ∷ (d.fcnt % 256) ∷ (d.fcnt / 256 % 256) ∷ [])
 
 -- every byte ahead of the payload: those eight, FOpts and FPort
 unfoldable pub dataHeader : DataParts → List ℕ → List ℕ
 dataHeader d commands =
-    fixedHeader d (length (foptsOf (d .port) commands)) ++ foptsOf (d .port) commands ++ portBytes (d .port)
+    fixedHeader d (length (foptsOf d.port commands)) ++ foptsOf d.port commands ++ portBytes d.port
 
 -- a data frame without its MIC, before encryption
 abbrev pub clearData : DataParts → List ℕ → List ℕ → List ℕ
-clearData d commands body = dataHeader d commands ++ bodyOf (d .port) commands body
+clearData d commands body = dataHeader d commands ++ body_of d.port commands body
 
 -- the length that the frame would have, its MIC included
 abbrev pub dataLength : DataParts → List ℕ → List ℕ → ℕ
@@ -74,12 +70,12 @@ dataLength d commands body = length (clearData d commands body) + 4
 abbrev pub dataTests : DataParts → List ℕ → List ℕ → ℕ → List (Bool × ℕ)
 dataTests d commands body room =
     (ltb room 255, 7)
-    ∷ (not (eqb (d .fctrl % 16) 0), 13)
-    ∷ (both (not (isZero (d .port))) (ltb 15 (length commands)), 9)
-    ∷ (both (isZero (d .port)) (ltb 0 (length body)), 10)
-    ∷ (both (isAbsent (d .port)) (ltb 0 (length body)), 11)
+    ∷ (not (eqb (d.fctrl % 16) 0), 13)
+    ∷ (both (not (is_zero d.port)) (ltb 15 (length commands)), 9)
+    ∷ (both (is_zero d.port) (ltb 0 (length body)), 10)
+    ∷ (both (isAbsent d.port) (ltb 0 (length body)), 11)
     ∷ (ltb 255 (dataLength d commands body), 12)
     ∷ []
 
 unfoldable pub dataRefusal : DataParts → List ℕ → List ℕ → ℕ → ℕ
-dataRefusal d commands body room = firstOf (dataTests d commands body room)
+dataRefusal d commands body room = first_of (dataTests d commands body room)

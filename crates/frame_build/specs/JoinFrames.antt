@@ -1,12 +1,11 @@
 -- The join messages that are built, whole, from LoRaWAN 1.0 sections 6.2.4 and 6.2.5 (docs/RULES.md, Building).
 -- Assumes nothing.
-use mathlib.Core.List.{List, _++_}
-use Prim.Native.Nat.{ℕ}
-use Rattle·frame_build·specs.specs.JoinBuilding.{joinAcceptBody, joinRequestBody}
-use Rattle·frame_security.specs.JoinAcceptCipher.{acceptEncrypted}
-use Rattle·frame_security.specs.Security.{joinMic}
-use Rattle·frame_build·specs.specs.declared.creator.join.JoinAcceptParts.{JoinAcceptParts}
-use Rattle·frame_build·specs.specs.declared.creator.join.JoinRequestParts.{JoinRequestParts}
+use Rattle.std.specs.Prelude.{List, ◌++◌, ℕ}
+use Rattle.frame_build.specs.JoinBuilding.{joinAcceptBody, joinRequestBody}
+use Rattle.frame_security.specs.JoinAcceptCipher.{acceptEncrypted}
+use Rattle.frame_security.specs.Security.{joinMic}
+use Rattle.frame_build.specs.declared.creator.join.JoinAcceptParts.{JoinAcceptParts}
+use Rattle.frame_build.specs.declared.creator.join.JoinRequestParts.{JoinRequestParts}
 
 -- a message with its MIC, of AppKey
 unfoldable pub signed : List ℕ → List ℕ → List ℕ

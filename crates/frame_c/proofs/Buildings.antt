@@ -1,24 +1,24 @@
 -- A promise to fill, seal or build, with its answer as a number; and the kinds of data frame: any other number is refused before
 -- anything is built.
 -- Assumes nothing.
-use mathlib.Core.Path.{_≡_, sym, ap, _∙_}
+use mathlib.Core.Path.{◌≡◌, sym, ap, ◌∙◌}
 use mathlib.Core.Bool.{Bool, false}
-use mathlib.Core.List.{List, _++_}
-use Prim.Native.Nat.{ℕ, _<_, _≤_}
+use mathlib.Core.List.{List, ◌++◌}
+use Prim.Native.Nat.{ℕ, ◌<◌, ◌≤◌}
 use lib.Dec.{eqb}
 use lib.ListN.{length, drop}
 use borrow.Author.Tests.{lt-ltb, le-ltb}
-use Rattle·base.specs.Bytes.{pick}
-use Rattle·frame.specs.Refusals.{refused}
-use Rattle·frame.specs.declared.refusals.Refusal.{Refusal}
-use Rattle·frame_build.specs.DataBuilding.{dataRefusal}
-use Rattle·frame_security.specs.Built.{builtOf, outOf, Builds}
-use Rattle·frame_security.specs.declared.sealing.Built.{Built}
-use Rattle·frame_security.specs.declared.sealing.Built.the-variants.{Frame, Refused}
-use Rattle·frame_build.specs.declared.creator.data_frame.DataParts.{DataParts}
-use Rattle·frame.specs.PackedReading.{numbered}
-use Rattle·frame_c·specs.specs.CAnswers.{builtAnswer, BuildsInC}
-use Rattle·frame_c·specs.specs.CGiven.{dataRefused}
+use Rattle.base.specs.Bytes.{pick}
+use Rattle.frame.specs.Refusals.{refused}
+use Rattle.frame.specs.declared.refusals.Refusal.{Refusal}
+use Rattle.frame_build.specs.DataBuilding.{dataRefusal}
+use Rattle.frame_security.specs.Built.{builtOf, out_of, Builds}
+use Rattle.frame_security.specs.declared.sealing.Built.{Built}
+use Rattle.frame_security.specs.declared.sealing.Built.TheVariants.{Frame, Refused}
+use Rattle.frame_build.specs.declared.creator.data_frame.DataParts.{DataParts}
+use Rattle.frame.specs.PackedReading.{numbered}
+use Rattle.frame_c.specs.CAnswers.{builtAnswer, BuildsInC}
+use Rattle.frame_c.specs.CGiven.{dataRefused}
 
 -- what was made of equal parts
 pub made : {x y : Refusal} {f g l e : List ℕ} {b : Built} {r : ℕ} → Builds x f l b e → x ≡ y → f ≡ g → r ≡ builtAnswer b
@@ -26,9 +26,9 @@ pub made : {x y : Refusal} {f g l e : List ℕ} {b : Built} {r : ℕ} → Builds
 made {x} {y} {f} {g} {l} {e} {b} {r} p q s a =
     record {
       answer =
-          a ∙ ap builtAnswer (p .answer) ∙ ap (λ (z : Refusal). builtAnswer (builtOf z (length f))) q
+          a ∙ ap builtAnswer p.answer ∙ ap (λ (z : Refusal). builtAnswer (builtOf z (length f))) q
           ∙ ap (λ (h : List ℕ). builtAnswer (builtOf y (length h))) s;
-      output = p .output ∙ ap (λ (z : Refusal). outOf (z .number) f l) q ∙ ap (λ (h : List ℕ). outOf (y .number) h l) s;
+      output = p.output ∙ ap (λ (z : Refusal). out_of z.number f l) q ∙ ap (λ (h : List ℕ). out_of y.number h l) s;
     }
 
 -- a refusal by a number that is not 0, which changes nothing
@@ -38,7 +38,7 @@ refused-kind k {n} {f} {l} {r} z q a =
       answer =
           a ∙ ap (λ (t : Bool). builtAnswer (pick t (Frame (length f)) (Refused (refused k)))) (sym z)
           ∙ ap (λ (m : ℕ). builtAnswer (builtOf (refused m) (length f))) (sym q);
-      output = ap (λ (t : Bool). pick t (f ++ drop (length f) l) l) (sym z) ∙ ap (λ (m : ℕ). outOf m f l) (sym q);
+      output = ap (λ (t : Bool). pick t (f ++ drop (length f) l) l) (sym z) ∙ ap (λ (m : ℕ). out_of m f l) (sym q);
     }
 
 pub below-data : (k : ℕ) (d : DataParts) (cs p : List ℕ) (n : ℕ) → k < 2 → dataRefused k d cs p n ≡ 4

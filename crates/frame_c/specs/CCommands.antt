@@ -1,17 +1,15 @@
 -- What the functions for C answer of MAC commands (docs/RULES.md, MAC commands, From C). A command is six numbers; a step of reading
 -- answers the place of the next command above the low byte, and 0 at the end of the list.
 -- Assumes nothing.
-use mathlib.Core.List.{List}
-use Prim.Native.Nat.{ℕ}
-use lib.IntN.{ℤ}
-use Rattle·frame.specs.PackedReading.{numbered}
-use Rattle·mac_commands.specs.declared.maccommands.Step.{Step}
-use Rattle·mac_commands.specs.declared.maccommands.Step.the-variants.{Found, End, Refused}
-use Rattle·mac_commands.specs.declared.maccommandcreator.Written.{Written}
-use Rattle·mac_commands.specs.declared.maccommandcreator.Written.the-variants.{Upto}
-use Rattle·mac_commands.specs.declared.maccommandcreator.Written.the-variants.{Refused as Unwritten}
-use Rattle·command_numbers.specs.Numbers.{numbersOf}
-use Rattle·frame_c·specs.specs.CAnswers.{refusalAnswer}
+use Rattle.std.specs.Prelude.{List, ℕ, ℤ}
+use Rattle.frame.specs.PackedReading.{numbered}
+use Rattle.mac_commands.specs.declared.maccommands.Step.{Step}
+use Rattle.mac_commands.specs.declared.maccommands.Step.TheVariants.{Found, End, Refused}
+use Rattle.mac_commands.specs.declared.maccommandcreator.Written.{Written}
+use Rattle.mac_commands.specs.declared.maccommandcreator.Written.TheVariants.{Upto}
+use Rattle.mac_commands.specs.declared.maccommandcreator.Written.TheVariants.{Refused as Unwritten}
+use Rattle.command_numbers.specs.Numbers.{numbersOf}
+use Rattle.frame_c.specs.CAnswers.{refusalAnswer}
 
 abbrev pub stepAnswer : Step → ℕ
 stepAnswer (Found c next) = numbered 0 next

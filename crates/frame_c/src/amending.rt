@@ -1,10 +1,11 @@
 // Amendments.
-ghost use mathlib.Core.Path.{_≡_};
-ghost use Rattle·amend.specs.AmendmentLists.{amendFrameOf, amendedFrame};
-ghost use Rattle·frame_c·specs.specs.CAnswers.{refusalAnswer};
+ghost use Rattle.std.specs.Prelude.{◌≡◌};
+ghost use Rattle.amend.specs.AmendmentLists.{amendFrameOf, amendedFrame};
+ghost use Rattle.frame_c.specs.CAnswers.{refusalAnswer};
+
 use crate::conversions::answers::refusal_answer;
 
-#[no_mangle]
+#[unsafe(no_mangle)]
 pub extern "C" fn zinovoky_amend(
     frame: &mut [u8],
     nwk_skey: &[u8; 16],
@@ -12,15 +13,13 @@ pub extern "C" fn zinovoky_amend(
     counter: u32,
     amendments: &[u32],
 ) -> u64
-    ensures { λ r.
-        ⌜ r
+    ensures value { result
         ≡ refusalAnswer
-        (amendFrameOf (now (frame .entry)) (now («nwk_skey» .entry)) (now («app_skey» .entry)) counter
-        (now (amendments .entry))) ⌝ }
-    ensures { λ _.
-        ⌜ now (frame .exit)
-        ≡ amendedFrame (now (frame .entry)) (now («nwk_skey» .entry)) (now («app_skey» .entry)) counter
-        (now (amendments .entry)) ⌝ }
+        (amendFrameOf frame.old nwk_skey.now app_skey.now counter
+        amendments.now) }
+    ensures frame_after { frame.new
+        ≡ amendedFrame frame.old nwk_skey.now app_skey.now counter
+        amendments.now }
 {
     let nwk = *nwk_skey;
     let app = *app_skey;

@@ -1,23 +1,20 @@
 // Buildings, and the two steps of a data frame's: filling, and sealing.
-ghost use lib.Dec.{eqb};
-ghost use lib.ListN.{length, take};
-ghost use Rattle·frame.specs.Refusals.{refused};
-ghost use Rattle·frame_security.specs.Sealing.{sealRefusal, sealedFrame};
-ghost use Rattle·frame_build.specs.DataBuilding.{clearData};
-ghost use Rattle·frame_build.specs.JoinBuilding.{joinRequestRefusal, joinAcceptRefusal};
-ghost use Rattle·frame_build.specs.DataFrames.{dataFrame};
-ghost use Rattle·frame_build.specs.JoinFrames.{joinRequest, joinAccept};
-ghost use Rattle·frame_c·specs.specs.CGiven.{acceptParts, dataParts, requestParts, dataRefused};
-ghost use Rattle·frame_c·specs.specs.CAnswers.{BuildsInC};
-use crate::conversions::building::accept_parts;
-use crate::conversions::building::built_answer;
-use crate::conversions::building::data_parts;
+ghost use Rattle.std.specs.Prelude.{eqb, length, take};
+ghost use Rattle.frame.specs.Refusals.{refused};
+ghost use Rattle.frame_security.specs.Sealing.{sealRefusal, sealedFrame};
+ghost use Rattle.frame_build.specs.DataBuilding.{clearData};
+ghost use Rattle.frame_build.specs.JoinBuilding.{joinRequestRefusal, joinAcceptRefusal};
+ghost use Rattle.frame_build.specs.DataFrames.{dataFrame};
+ghost use Rattle.frame_build.specs.JoinFrames.{joinRequest, joinAccept};
+ghost use Rattle.frame_c.specs.CGiven.{acceptParts, dataParts, requestParts, dataRefused};
+ghost use Rattle.frame_c.specs.CAnswers.{BuildsInC};
+
+use crate::conversions::building::{accept_parts, built_answer, data_parts};
 use frame::packed::numbered_bits;
-use frame::refusals::INVALID_DATA;
-use frame::refusals::INVALID_MESSAGE_TYPE;
+use frame::refusals::{INVALID_DATA, INVALID_MESSAGE_TYPE};
 use frame_build::creator::join::JoinRequestParts;
 
-#[no_mangle]
+#[unsafe(no_mangle)]
 pub extern "C" fn zinovoky_build_join_request(
     app_eui: &[u8; 8],
     dev_eui: &[u8; 8],
@@ -25,11 +22,10 @@ pub extern "C" fn zinovoky_build_join_request(
     app_key: &[u8; 16],
     out: &mut [u8],
 ) -> u64
-    ensures { λ r.
-        ⌜ BuildsInC (refused (joinRequestRefusal (length (now (out .entry)))))
-        (joinRequest (now («app_key» .entry))
-        (requestParts (now («app_eui» .entry)) (now («dev_eui» .entry)) (now («dev_nonce» .entry))))
-        (now (out .entry)) r (now (out .exit)) ⌝ }
+    ensures { BuildsInC (refused (joinRequestRefusal (length out.old)))
+        (joinRequest app_key.now
+        (requestParts app_eui.now dev_eui.now dev_nonce.now))
+        out.old result out.new }
 {
     let app = *app_eui;
     let dev = *dev_eui;
@@ -44,7 +40,7 @@ pub extern "C" fn zinovoky_build_join_request(
     built_answer(built)
 }
 
-#[no_mangle]
+#[unsafe(no_mangle)]
 pub extern "C" fn zinovoky_build_join_accept(
     fixed: &[u8; 12],
     with_list: u8,
@@ -52,13 +48,12 @@ pub extern "C" fn zinovoky_build_join_accept(
     app_key: &[u8; 16],
     out: &mut [u8],
 ) -> u64
-    ensures { λ r.
-        ⌜ BuildsInC
+    ensures { BuildsInC
         (refused
-        (joinAcceptRefusal (acceptParts (now (fixed .entry)) (eqb «with_list» 1)) (now (channels .entry))
-        (length (now (out .entry)))))
-        (joinAccept (now («app_key» .entry)) (acceptParts (now (fixed .entry)) (eqb «with_list» 1)) (now (channels .entry)))
-        (now (out .entry)) r (now (out .exit)) ⌝ }
+        (joinAcceptRefusal (acceptParts fixed.now (eqb with_list 1)) channels.now
+        (length out.old)))
+        (joinAccept app_key.now (acceptParts fixed.now (eqb with_list 1)) channels.now)
+        out.old result out.new }
 {
     let key = *app_key;
     let bytes = *fixed;
@@ -67,7 +62,7 @@ pub extern "C" fn zinovoky_build_join_accept(
     built_answer(built)
 }
 
-#[no_mangle]
+#[unsafe(no_mangle)]
 pub extern "C" fn zinovoky_build_data(
     kind: u8,
     dev_addr: &[u8; 4],
@@ -80,14 +75,13 @@ pub extern "C" fn zinovoky_build_data(
     app_skey: &[u8; 16],
     out: &mut [u8],
 ) -> u64
-    ensures { λ r.
-        ⌜ BuildsInC
+    ensures { BuildsInC
         (refused
-        (dataRefused kind (dataParts kind (now («dev_addr» .entry)) fctrl counter port) (now (commands .entry))
-        (now (payload .entry)) (length (now (out .entry)))))
-        (dataFrame (now («nwk_skey» .entry)) (now («app_skey» .entry))
-        (dataParts kind (now («dev_addr» .entry)) fctrl counter port) (now (commands .entry)) (now (payload .entry)))
-        (now (out .entry)) r (now (out .exit)) ⌝ }
+        (dataRefused kind (dataParts kind dev_addr.now fctrl counter port) commands.now
+        payload.now (length out.old)))
+        (dataFrame nwk_skey.now app_skey.now
+        (dataParts kind dev_addr.now fctrl counter port) commands.now payload.now)
+        out.old result out.new }
 {
     if kind < 2 {
         return numbered_bits(INVALID_DATA, 0);
@@ -100,17 +94,12 @@ pub extern "C" fn zinovoky_build_data(
     let app = *app_skey;
     let parts = data_parts(kind, addr, fctrl, counter, port);
     let built = frame_build::creator::data_frame::build_data(
-        parts,
-        commands,
-        payload,
-        nwk,
-        app,
-        out,
+        parts, commands, payload, nwk, app, out,
     );
     built_answer(built)
 }
 
-#[no_mangle]
+#[unsafe(no_mangle)]
 pub extern "C" fn zinovoky_fill_data(
     kind: u8,
     dev_addr: &[u8; 4],
@@ -121,13 +110,12 @@ pub extern "C" fn zinovoky_fill_data(
     payload: &[u8],
     out: &mut [u8],
 ) -> u64
-    ensures { λ r.
-        ⌜ BuildsInC
+    ensures { BuildsInC
         (refused
-        (dataRefused kind (dataParts kind (now («dev_addr» .entry)) fctrl counter port) (now (commands .entry))
-        (now (payload .entry)) (length (now (out .entry)))))
-        (clearData (dataParts kind (now («dev_addr» .entry)) fctrl counter port) (now (commands .entry)) (now (payload .entry)))
-        (now (out .entry)) r (now (out .exit)) ⌝ }
+        (dataRefused kind (dataParts kind dev_addr.now fctrl counter port) commands.now
+        payload.now (length out.old)))
+        (clearData (dataParts kind dev_addr.now fctrl counter port) commands.now payload.now)
+        out.old result out.new }
 {
     if kind < 2 {
         return numbered_bits(INVALID_DATA, 0);
@@ -141,7 +129,7 @@ pub extern "C" fn zinovoky_fill_data(
     built_answer(built)
 }
 
-#[no_mangle]
+#[unsafe(no_mangle)]
 pub extern "C" fn zinovoky_seal_data(
     out: &mut [u8],
     length: usize,
@@ -149,10 +137,9 @@ pub extern "C" fn zinovoky_seal_data(
     nwk_skey: &[u8; 16],
     app_skey: &[u8; 16],
 ) -> u64
-    ensures { λ r.
-        ⌜ BuildsInC (sealRefusal counter length (now (out .entry)))
-        (sealedFrame (now («nwk_skey» .entry)) (now («app_skey» .entry)) counter (take length (now (out .entry))))
-        (now (out .entry)) r (now (out .exit)) ⌝ }
+    ensures { BuildsInC (sealRefusal counter length out.old)
+        (sealedFrame nwk_skey.now app_skey.now counter (take length out.old))
+        out.old result out.new }
 {
     let nwk = *nwk_skey;
     let app = *app_skey;

@@ -1,29 +1,25 @@
 // MAC commands.
-ghost use mathlib.Core.Path.{_≡_};
-ghost use lib.Dec.{eqb};
-ghost use lib.ListN.{length};
-ghost use Rattle·mac_commands.specs.Commands.{stepAt, fieldsWritten, fieldsIn};
-ghost use Rattle·command_numbers.specs.Numbers.{idGiven, valuesGiven};
-ghost use Rattle·frame_c·specs.specs.CCommands.{stepAnswer, stepInto, writtenAnswer};
+ghost use Rattle.std.specs.Prelude.{◌≡◌, eqb, length};
+ghost use Rattle.mac_commands.specs.Commands.{stepAt, fieldsWritten, fieldsIn};
+ghost use Rattle.command_numbers.specs.Numbers.{idGiven, valuesGiven};
+ghost use Rattle.frame_c.specs.CCommands.{stepAnswer, stepInto, writtenAnswer};
+
 use crate::conversions::answers::refusal_answer;
 use crate::conversions::commands::written_answer;
-use command_numbers::numbers_of;
-use command_numbers::write_numbers;
+use command_numbers::{numbers_of, write_numbers};
 use frame::packed::numbered_bits;
-use mac_commands::maccommands::RawStep;
-use mac_commands::maccommands::read_raw;
+use mac_commands::maccommands::{RawStep, read_raw};
 
 // The six numbers of a command that was found are stored; at the end of the list and by a refusal nothing is.
-#[no_mangle]
+#[unsafe(no_mangle)]
 pub extern "C" fn zinovoky_read_command(
     uplink: u8,
     bytes: &[u8],
     offset: usize,
     command: &mut [i64; 6],
 ) -> u64
-    ensures { λ r. ⌜ r ≡ stepAnswer (stepAt (eqb uplink 1) (now (bytes .entry)) offset) ⌝ }
-    ensures { λ _.
-        ⌜ now (command .exit) ≡ stepInto (stepAt (eqb uplink 1) (now (bytes .entry)) offset) (now (command .entry)) ⌝ }
+    ensures value { result ≡ stepAnswer (stepAt (eqb uplink 1) bytes.now offset) }
+    ensures command_after { command.new ≡ stepInto (stepAt (eqb uplink 1) bytes.now offset) command.old }
 {
     let step = read_raw(uplink == 1, bytes, offset);
     match step {
@@ -37,22 +33,20 @@ pub extern "C" fn zinovoky_read_command(
     }
 }
 
-#[no_mangle]
+#[unsafe(no_mangle)]
 pub extern "C" fn zinovoky_write_command(
     uplink: u8,
     command: &[i64; 6],
     out: &mut [u8],
     offset: usize,
 ) -> u64
-    ensures { λ r.
-        ⌜ r
+    ensures value { result
         ≡ writtenAnswer
-        (fieldsWritten (eqb uplink 1) (idGiven (now (command .entry))) (valuesGiven (eqb uplink 1) (now (command .entry)))
-        (length (now (out .entry))) offset) ⌝ }
-    ensures { λ _.
-        ⌜ now (out .exit)
-        ≡ fieldsIn (eqb uplink 1) (idGiven (now (command .entry))) (valuesGiven (eqb uplink 1) (now (command .entry)))
-        (now (out .entry)) offset ⌝ }
+        (fieldsWritten (eqb uplink 1) (idGiven command.now) (valuesGiven (eqb uplink 1) command.now)
+        (length out.old) offset) }
+    ensures out_after { out.new
+        ≡ fieldsIn (eqb uplink 1) (idGiven command.now) (valuesGiven (eqb uplink 1) command.now)
+        out.old offset }
 {
     let numbers = *command;
     let written = write_numbers(uplink == 1, numbers, out, offset);

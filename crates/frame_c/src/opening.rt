@@ -1,63 +1,60 @@
 // MIC tests, decryption and session keys.
-ghost use mathlib.Core.Path.{_≡_};
-ghost use Rattle·frame_opening.specs.FrameOpening.{joinRequestTest, joinAcceptTest, dataTest, dataOpened};
-ghost use Rattle·frame_opening.specs.JoinAcceptOpening.{acceptOpened};
-ghost use Rattle·frame_opening.specs.SessionKeys.{sessionKeys};
-ghost use Rattle·frame_opening.specs.CheckedOpening.{dataOpenedChecked, acceptOpenedChecked};
-ghost use Rattle·frame_c·specs.specs.CAnswers.{testAnswer, passesOf, openingAnswer};
-ghost use Rattle·frame_c·specs.specs.CStored.{KeysInto};
-ghost use Rattle·frame_c·specs.specs.CGiven.{nwkGiven, appGiven};
-use crate::conversions::answers::opening_answer;
-use crate::conversions::answers::test_answer;
+ghost use Rattle.std.specs.Prelude.{◌≡◌};
+ghost use Rattle.frame_opening.specs.FrameOpening.{joinRequestTest, joinAcceptTest, dataTest, dataOpened};
+ghost use Rattle.frame_opening.specs.JoinAcceptOpening.{acceptOpened};
+ghost use Rattle.frame_opening.specs.SessionKeys.{sessionKeys};
+ghost use Rattle.frame_opening.specs.CheckedOpening.{dataOpenedChecked, acceptOpenedChecked};
+ghost use Rattle.frame_c.specs.CAnswers.{testAnswer, passesOf, openingAnswer};
+ghost use Rattle.frame_c.specs.CStored.{KeysInto};
+ghost use Rattle.frame_c.specs.CGiven.{nwkGiven, appGiven};
+
+use crate::conversions::answers::{opening_answer, test_answer};
 use crate::conversions::opening::store_keys;
 use frame::keys::MaybeKey;
 
-#[no_mangle]
+#[unsafe(no_mangle)]
 pub extern "C" fn zinovoky_join_request_mic(
     frame: &[u8],
     app_key: &[u8; 16],
     passes: &mut u8,
 ) -> u64
-    ensures { λ r. ⌜ r ≡ testAnswer (joinRequestTest (now («app_key» .entry)) (now (frame .entry))) ⌝ }
-    ensures { λ _.
-        ⌜ now (passes .exit)
-        ≡ passesOf (joinRequestTest (now («app_key» .entry)) (now (frame .entry))) (now (passes .entry)) ⌝ }
+    ensures value { result ≡ testAnswer (joinRequestTest app_key.now frame.now) }
+    ensures passes_after { passes.new
+        ≡ passesOf (joinRequestTest app_key.now frame.now) passes.old }
 {
     let key = *app_key;
     let test = frame_opening::mic_tests::join_request_mic(frame, key);
     test_answer(test, passes)
 }
 
-#[no_mangle]
+#[unsafe(no_mangle)]
 pub extern "C" fn zinovoky_join_accept_mic(frame: &[u8], app_key: &[u8; 16], passes: &mut u8) -> u64
-    ensures { λ r. ⌜ r ≡ testAnswer (joinAcceptTest (now («app_key» .entry)) (now (frame .entry))) ⌝ }
-    ensures { λ _.
-        ⌜ now (passes .exit)
-        ≡ passesOf (joinAcceptTest (now («app_key» .entry)) (now (frame .entry))) (now (passes .entry)) ⌝ }
+    ensures value { result ≡ testAnswer (joinAcceptTest app_key.now frame.now) }
+    ensures passes_after { passes.new
+        ≡ passesOf (joinAcceptTest app_key.now frame.now) passes.old }
 {
     let key = *app_key;
     let test = frame_opening::mic_tests::join_accept_mic(frame, key);
     test_answer(test, passes)
 }
 
-#[no_mangle]
+#[unsafe(no_mangle)]
 pub extern "C" fn zinovoky_data_mic(
     frame: &[u8],
     nwk_skey: &[u8; 16],
     counter: u32,
     passes: &mut u8,
 ) -> u64
-    ensures { λ r. ⌜ r ≡ testAnswer (dataTest (now («nwk_skey» .entry)) counter (now (frame .entry))) ⌝ }
-    ensures { λ _.
-        ⌜ now (passes .exit)
-        ≡ passesOf (dataTest (now («nwk_skey» .entry)) counter (now (frame .entry))) (now (passes .entry)) ⌝ }
+    ensures value { result ≡ testAnswer (dataTest nwk_skey.now counter frame.now) }
+    ensures passes_after { passes.new
+        ≡ passesOf (dataTest nwk_skey.now counter frame.now) passes.old }
 {
     let key = *nwk_skey;
     let test = frame_opening::mic_tests::data_mic(frame, key, counter);
     test_answer(test, passes)
 }
 
-#[no_mangle]
+#[unsafe(no_mangle)]
 pub extern "C" fn zinovoky_decrypt_data(
     frame: &mut [u8],
     keys_given: u8,
@@ -65,15 +62,13 @@ pub extern "C" fn zinovoky_decrypt_data(
     app_skey: &[u8; 16],
     counter: u32,
 ) -> u64
-    ensures { λ r.
-        ⌜ r
+    ensures value { result
         ≡ openingAnswer
-        (dataOpened (nwkGiven «keys_given» (now («nwk_skey» .entry))) (appGiven «keys_given» (now («app_skey» .entry))) counter
-        (now (frame .entry)) .answer) ⌝ }
-    ensures { λ _.
-        ⌜ now (frame .exit)
-        ≡ dataOpened (nwkGiven «keys_given» (now («nwk_skey» .entry))) (appGiven «keys_given» (now («app_skey» .entry))) counter
-        (now (frame .entry)) .bytes ⌝ }
+        (dataOpened (nwkGiven keys_given nwk_skey.now) (appGiven keys_given app_skey.now) counter
+        frame.old).answer }
+    ensures frame_after { frame.new
+        ≡ (dataOpened (nwkGiven keys_given nwk_skey.now) (appGiven keys_given app_skey.now) counter
+        frame.old).bytes }
 {
     let nwk_key = *nwk_skey;
     let app_key = *app_skey;
@@ -89,7 +84,7 @@ pub extern "C" fn zinovoky_decrypt_data(
     opening_answer(opening)
 }
 
-#[no_mangle]
+#[unsafe(no_mangle)]
 pub extern "C" fn zinovoky_decrypt_data_checked(
     frame: &mut [u8],
     keys_given: u8,
@@ -97,15 +92,13 @@ pub extern "C" fn zinovoky_decrypt_data_checked(
     app_skey: &[u8; 16],
     counter: u32,
 ) -> u64
-    ensures { λ r.
-        ⌜ r
+    ensures value { result
         ≡ openingAnswer
-        (dataOpenedChecked (now («nwk_skey» .entry)) (appGiven «keys_given» (now («app_skey» .entry))) counter
-        (now (frame .entry)) .answer) ⌝ }
-    ensures { λ _.
-        ⌜ now (frame .exit)
-        ≡ dataOpenedChecked (now («nwk_skey» .entry)) (appGiven «keys_given» (now («app_skey» .entry))) counter
-        (now (frame .entry)) .bytes ⌝ }
+        (dataOpenedChecked nwk_skey.now (appGiven keys_given app_skey.now) counter
+        frame.old).answer }
+    ensures frame_after { frame.new
+        ≡ (dataOpenedChecked nwk_skey.now (appGiven keys_given app_skey.now) counter
+        frame.old).bytes }
 {
     let nwk_key = *nwk_skey;
     let app_key = *app_skey;
@@ -117,36 +110,35 @@ pub extern "C" fn zinovoky_decrypt_data_checked(
     opening_answer(opening)
 }
 
-#[no_mangle]
+#[unsafe(no_mangle)]
 pub extern "C" fn zinovoky_decrypt_join_accept(frame: &mut [u8], app_key: &[u8; 16]) -> u64
-    ensures { λ r. ⌜ r ≡ openingAnswer (acceptOpened (now («app_key» .entry)) (now (frame .entry)) .answer) ⌝ }
-    ensures { λ _. ⌜ now (frame .exit) ≡ acceptOpened (now («app_key» .entry)) (now (frame .entry)) .bytes ⌝ }
+    ensures value { result ≡ openingAnswer (acceptOpened app_key.now frame.old).answer }
+    ensures frame_after { frame.new ≡ (acceptOpened app_key.now frame.old).bytes }
 {
     let key = *app_key;
     let opening = frame_opening::join_accept::decrypt_join_accept(frame, key);
     opening_answer(opening)
 }
 
-#[no_mangle]
+#[unsafe(no_mangle)]
 pub extern "C" fn zinovoky_decrypt_join_accept_checked(frame: &mut [u8], app_key: &[u8; 16]) -> u64
-    ensures { λ r. ⌜ r ≡ openingAnswer (acceptOpenedChecked (now («app_key» .entry)) (now (frame .entry)) .answer) ⌝ }
-    ensures { λ _. ⌜ now (frame .exit) ≡ acceptOpenedChecked (now («app_key» .entry)) (now (frame .entry)) .bytes ⌝ }
+    ensures value { result ≡ openingAnswer (acceptOpenedChecked app_key.now frame.old).answer }
+    ensures frame_after { frame.new ≡ (acceptOpenedChecked app_key.now frame.old).bytes }
 {
     let key = *app_key;
     let opening = frame_opening::default_crypto::decrypt_join_accept_checked(frame, key);
     opening_answer(opening)
 }
 
-#[no_mangle]
+#[unsafe(no_mangle)]
 pub extern "C" fn zinovoky_session_keys(
     frame: &[u8],
     dev_nonce: &[u8; 2],
     app_key: &[u8; 16],
     keys: &mut [u8],
 ) -> u64
-    ensures { λ r.
-        ⌜ KeysInto (sessionKeys (now («app_key» .entry)) (now («dev_nonce» .entry)) (now (frame .entry))) (now (keys .entry)) r
-        (now (keys .exit)) ⌝ }
+    ensures { KeysInto (sessionKeys app_key.now dev_nonce.now frame.now) keys.old result
+        keys.new }
 {
     let nonce = *dev_nonce;
     let key = *app_key;

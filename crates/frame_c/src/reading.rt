@@ -1,43 +1,42 @@
 // Reading.
-ghost use mathlib.Core.Path.{_≡_};
-ghost use Rattle·frame.specs.PackedReading.{packedOf};
-ghost use Rattle·frame_bits.specs.Fctrl.{nwkIdOf};
-ghost use Rattle·frame.specs.Reading.{readOf};
-ghost use Rattle·frame.specs.JoinFields.{joinRequestFields, joinAcceptFields};
-ghost use Rattle·frame_c·specs.specs.CStored.{RequestInto, AcceptInto};
-use crate::conversions::reading::store_accept;
-use crate::conversions::reading::store_request;
-use frame::join_fields::join_accept_fields;
-use frame::join_fields::join_request_fields;
+ghost use Rattle.std.specs.Prelude.{◌≡◌};
+ghost use Rattle.frame.specs.PackedReading.{packedOf};
+ghost use Rattle.frame_bits.specs.Fctrl.{nwkIdOf};
+ghost use Rattle.frame.specs.Reading.{read_of};
+ghost use Rattle.frame.specs.JoinFields.{joinRequestFields, joinAcceptFields};
+ghost use Rattle.frame_c.specs.CStored.{RequestInto, AcceptInto};
+
+use crate::conversions::reading::{store_accept, store_request};
+use frame::join_fields::{join_accept_fields, join_request_fields};
 use frame::packed::read_packed;
 use frame_bits::fctrl::nwk_id;
 
-#[no_mangle]
+#[unsafe(no_mangle)]
 pub extern "C" fn zinovoky_read(frame: &[u8]) -> u64
-    ensures { λ r. ⌜ r ≡ packedOf (readOf (now (frame .entry))) ⌝ }
+    ensures { result ≡ packedOf (read_of frame.now) }
 {
     read_packed(frame)
 }
 
-#[no_mangle]
+#[unsafe(no_mangle)]
 pub extern "C" fn zinovoky_join_request_fields(frame: &[u8], fields: &mut [u8]) -> u64
-    ensures { λ r. ⌜ RequestInto (joinRequestFields (now (frame .entry))) (now (fields .entry)) r (now (fields .exit)) ⌝ }
+    ensures { RequestInto (joinRequestFields frame.now) fields.old result fields.new }
 {
     let found = join_request_fields(frame);
     store_request(found, fields)
 }
 
-#[no_mangle]
+#[unsafe(no_mangle)]
 pub extern "C" fn zinovoky_join_accept_fields(frame: &[u8], fields: &mut [u8]) -> u64
-    ensures { λ r. ⌜ AcceptInto (joinAcceptFields (now (frame .entry))) (now (fields .entry)) r (now (fields .exit)) ⌝ }
+    ensures { AcceptInto (joinAcceptFields frame.now) fields.old result fields.new }
 {
     let found = join_accept_fields(frame);
     store_accept(found, fields)
 }
 
-#[no_mangle]
+#[unsafe(no_mangle)]
 pub extern "C" fn zinovoky_nwk_id(dev_addr: &[u8; 4]) -> u8
-    ensures { λ r. ⌜ r ≡ nwkIdOf (now («dev_addr» .entry)) ⌝ }
+    ensures { result ≡ nwkIdOf dev_addr.now }
 {
     let addr = *dev_addr;
     nwk_id(addr)

@@ -1,23 +1,23 @@
 -- Laws on the session keys: the block that is enciphered, as it is stored, and a key from what the calls on the way gave.
 -- Assumes nothing.
-use mathlib.Core.Path.{_≡_, sym, ap, ap₂, _∙_}
+use mathlib.Core.Path.{◌≡◌, sym, ap, ap₂, ◌∙◌}
 use mathlib.Core.List.{List}
 use Prim.Native.Nat.{ℕ}
 use lib.ListN.{length, set}
 use lib.Seq.{sets}
-use Rattle·base.specs.Bytes.{tab, at, zeros}
-use Rattle·base.proofs.Tab.{tab-at}
-use Rattle·aes.specs.KeyExpansion.{keyExpansion}
-use Rattle·aes.specs.Fips197.{cipher}
-use Rattle·frame.specs.Layout.{appNonce, netId}
-use Rattle·frame.specs.Refusals.{notRefused}
-use Rattle·frame_opening·specs.specs.SessionKeys.{keyBlock, sessionKey}
-use Rattle·frame_opening·specs.specs.declared.join_accept.SessionKeys.{SessionKeys}
+use Rattle.base.specs.Bytes.{tab, at, zeros}
+use Rattle.base.proofs.Tab.{tab-at}
+use Rattle.aes.specs.KeyExpansion.{keyExpansion}
+use Rattle.aes.specs.Fips197.{cipher}
+use Rattle.frame.specs.Layout.{appNonce, netId}
+use Rattle.frame.specs.Refusals.{notRefused}
+use Rattle.frame_opening.specs.SessionKeys.{keyBlock, sessionKey}
+use Rattle.frame_opening.specs.declared.join_accept.SessionKeys.{SessionKeys}
 
 -- AppNonce, NetID and DevNonce are the lists of their bytes, wherever they stand
-by-bytes : (F : List ℕ → List ℕ → List ℕ → List ℕ) (a i d : List ℕ) → length a ≡ 3 → length i ≡ 3 → length d ≡ 2
+by_bytes : (F : List ℕ → List ℕ → List ℕ → List ℕ) (a i d : List ℕ) → length a ≡ 3 → length i ≡ 3 → length d ≡ 2
     → F a i d ≡ F (tab 3 (at a)) (tab 3 (at i)) (tab 2 (at d))
-by-bytes F a i d ha hi hd = λ k. F (tab-at a 3 ha k) (tab-at i 3 hi k) (tab-at d 2 hd k)
+by_bytes F a i d ha hi hd = λ k. F (tab-at a 3 ha k) (tab-at i 3 hi k) (tab-at d 2 hd k)
 
 -- so the block is zeros with each of them stored in its place
 pub block-stored : (first : ℕ) (a i d : List ℕ) {x y z : List ℕ} → length a ≡ 3 → length i ≡ 3 → length d ≡ 2
@@ -25,8 +25,8 @@ pub block-stored : (first : ℕ) (a i d : List ℕ) {x y z : List ℕ} → lengt
 unfolding keyBlock
 block-stored first a i d ha hi hd hx hy hz =
     hz ∙ ap (λ (l : List ℕ). sets l 7 d) (hy ∙ ap (λ (l : List ℕ). sets l 4 i) hx)
-    ∙ by-bytes (λ (p q r : List ℕ). sets (sets (sets (set (zeros 16) 0 first) 1 p) 4 q) 7 r) a i d ha hi hd
-    ∙ sym (by-bytes (keyBlock first) a i d ha hi hd)
+    ∙ by_bytes (λ (p q r : List ℕ). sets (sets (sets (set (zeros 16) 0 first) 1 p) 4 q) 7 r) a i d ha hi hd
+    ∙ sym (by_bytes (keyBlock first) a i d ha hi hd)
 
 -- one of them, from what the calls on the way gave
 pub session-key : (first : ℕ) (key nonce f : List ℕ) {a i w block k : List ℕ} → a ≡ appNonce f → i ≡ netId f
@@ -35,5 +35,5 @@ unfolding sessionKey
 session-key first key nonce f ha hi hw hb hk =
     hk ∙ ap₂ (λ (v b : List ℕ). cipher v b) hw (hb ∙ ap₂ (λ (x y : List ℕ). keyBlock first x y nonce) ha hi)
 
-abbrev pub keysOf : List ℕ → List ℕ → SessionKeys
-keysOf nwk app = record { refusal = notRefused; «nwk_skey» = nwk; «app_skey» = app }
+abbrev pub keys_of : List ℕ → List ℕ → SessionKeys
+keys_of nwk app = record { refusal = notRefused; nwk_skey = nwk; app_skey = app }

@@ -1,28 +1,21 @@
 // The checked openings (default_crypto.rs of the crate): a frame is decrypted where it lies if its MIC is right. The test
 // comes before anything is written, so a refusal has nothing to undo.
-ghost use mathlib.Core.Path.{_≡_};
-ghost use Prim.Native.Nat.{_≤_};
-ghost use lib.ListN.{length, take};
-ghost use Rattle·frame.specs.Conditions.{IsJoinAccept};
-ghost use Rattle·frame_security.specs.JoinAcceptCipher.{acceptDecrypted};
-ghost use Rattle·frame_opening·specs.specs.FrameOpening.{result, testPasses};
-ghost use Rattle·frame_opening·specs.specs.CheckedOpening.{openingAfter, dataOpenedChecked, acceptTested, acceptOpenedChecked};
+ghost use Rattle.std.specs.Prelude.{◌≡◌, ◌≤◌, length, take};
+ghost use Rattle.frame.specs.Conditions.{IsJoinAccept};
+ghost use Rattle.frame_security.specs.JoinAcceptCipher.{acceptDecrypted};
+ghost use Rattle.frame_opening.specs.FrameOpening.{result, testPasses};
+ghost use Rattle.frame_opening.specs.CheckedOpening.{openingAfter, dataOpenedChecked, acceptTested, acceptOpenedChecked};
+
 use crate::join_accept::decrypt_join_accept;
-use crate::mic_tests::MicTest;
-use crate::mic_tests::data_mic;
-use crate::mic_tests::join_accept_mic;
-use crate::payload::Opening;
-use crate::payload::decrypt_data;
-use crate::payload::no_opening;
+use crate::mic_tests::{MicTest, data_mic, join_accept_mic};
+use crate::payload::{Opening, decrypt_data, no_opening};
 use frame::keys::MaybeKey;
-use frame::parser::Reading;
-use frame::parser::read;
-use frame::refusals::INVALID_MIC;
-use frame::refusals::Refusal;
+use frame::parser::{Reading, read};
+use frame::refusals::{INVALID_MIC, Refusal};
 
 // What an opening answers where it goes by a test of the MIC.
 fn opening_after(test: MicTest) -> Opening
-    ensures { λ r. ⌜ r ≡ openingAfter test ⌝ }
+    ensures* { λ r. ⌜ r ≡ openingAfter test ⌝ }
 {
     match test {
         MicTest::Passes => Opening::Opened,
@@ -35,7 +28,7 @@ fn opening_after(test: MicTest) -> Opening
 }
 
 fn passes(test: MicTest) -> bool
-    ensures { λ r. ⌜ r ≡ testPasses test ⌝ }
+    ensures* { λ r. ⌜ r ≡ testPasses test ⌝ }
 {
     match test {
         MicTest::Passes => true,
@@ -51,9 +44,9 @@ pub fn decrypt_data_checked(
     app_skey: MaybeKey,
     counter: u32,
 ) -> Opening
-    ensures { λ r.
-        ⌜ result r (now (frame .exit))
-        ≡ dataOpenedChecked «nwk_skey» «app_skey» counter (now (frame .entry)) ⌝ }
+    ensures* { λ r.
+        ⌜ result r frame.new
+        ≡ dataOpenedChecked nwk_skey app_skey counter frame.old ⌝ }
 {
     let test = data_mic(frame, nwk_skey, counter);
     let MicTest::Passes = test else {
@@ -68,8 +61,8 @@ pub fn decrypt_data_checked(
 
 // A copy of a join-accept, decrypted, zeros behind it.
 fn clear_copy(frame: &[u8], app_key: [u8; 16]) -> [u8; 33]
-    requires { ⌜ IsJoinAccept (now frame) (length (now frame)) ⌝ }
-    ensures { λ r. ⌜ take (length (now (frame .entry))) r ≡ acceptDecrypted «app_key» (now (frame .entry)) ⌝ }
+    requires { IsJoinAccept frame.now (length frame.now) }
+    ensures* { λ r. ⌜ take (length frame.now) r ≡ acceptDecrypted app_key frame.now ⌝ }
 {
     let n = frame.len();
     let mut copy = [0u8; 33];
@@ -80,8 +73,8 @@ fn clear_copy(frame: &[u8], app_key: [u8; 16]) -> [u8; 33]
 
 // The MIC is tested on a clear copy, which is stored if it is right.
 fn open_accept_tested(frame: &mut [u8], app_key: [u8; 16]) -> Opening
-    requires { ⌜ IsJoinAccept (now frame) (length (now frame)) ⌝ }
-    ensures { λ r. ⌜ result r (now (frame .exit)) ≡ acceptTested «app_key» (now (frame .entry)) ⌝ }
+    requires { IsJoinAccept frame.old (length frame.old) }
+    ensures* { λ r. ⌜ result r frame.new ≡ acceptTested app_key frame.old ⌝ }
 {
     let n = frame.len();
     let copy = clear_copy(frame, app_key);
@@ -97,7 +90,7 @@ fn open_accept_tested(frame: &mut [u8], app_key: [u8; 16]) -> Opening
 
 // Decrypts a join-accept where it lies if the MIC of the clear text is right.
 pub fn decrypt_join_accept_checked(frame: &mut [u8], app_key: [u8; 16]) -> Opening
-    ensures { λ r. ⌜ result r (now (frame .exit)) ≡ acceptOpenedChecked «app_key» (now (frame .entry)) ⌝ }
+    ensures* { λ r. ⌜ result r frame.new ≡ acceptOpenedChecked app_key frame.old ⌝ }
 {
     let reading = read(frame);
     let Reading::JoinAccept(_) = reading else {

@@ -1,22 +1,20 @@
 // Tests of a frame's MIC (of the cryptographic half of parser.rs of the crate).
-ghost use mathlib.Core.Path.{_≡_};
-ghost use Prim.Native.Nat.{_≤_};
-ghost use lib.ListN.{length};
-ghost use Rattle·frame.specs.Layout.{micOf};
-ghost use Rattle·frame.specs.ReadingNumbers.{otherRefusal};
-ghost use Rattle·frame_security.specs.Mic.{sameBytes};
-ghost use Rattle·frame_opening·specs.specs.FrameOpening.{joinPasses, dataPasses, answered, joinRequestTest, joinAcceptTest, dataTest};
+ghost use Rattle.std.specs.Prelude.{◌≡◌, ◌≤◌, length};
+ghost use Rattle.frame.specs.Layout.{micOf};
+ghost use Rattle.frame.specs.ReadingNumbers.{otherRefusal};
+ghost use Rattle.frame_security.specs.Mic.{sameBytes};
+ghost use Rattle.frame_opening.specs.FrameOpening.{joinPasses, dataPasses, answered, joinRequestTest, joinAcceptTest, dataTest};
+
 use base::storing::four_at;
 use frame::numbers::other_refusal;
 use frame::packet_length::MIC_LEN;
-use frame::parser::Reading;
-use frame::parser::read;
+use frame::parser::{Reading, read};
 use frame::refusals::Refusal;
 use frame_security::mic::same_mic;
-use frame_security::securityhelpers::calculate_data_mic;
-use frame_security::securityhelpers::calculate_mic;
+use frame_security::securityhelpers::{calculate_data_mic, calculate_mic};
 
 // Whether the MIC of a frame is right, or why it cannot be tested.
+#[derive(Drop)]
 pub enum MicTest {
     Passes,
     Fails,
@@ -25,8 +23,8 @@ pub enum MicTest {
 
 // Whether the last four bytes are the MIC that is right.
 fn answer(frame: &[u8], right: [u8; 4]) -> MicTest
-    requires { ⌜ 4 ≤ length (now frame) ⌝ }
-    ensures { λ r. ⌜ r ≡ answered (sameBytes (micOf (now (frame .entry))) right) ⌝ }
+    requires { 4 ≤ length frame.now }
+    ensures { result ≡ answered (sameBytes (micOf frame.now) right) }
 {
     let found = four_at(frame, frame.len() - MIC_LEN);
     if same_mic(found, right) {
@@ -37,8 +35,8 @@ fn answer(frame: &[u8], right: [u8; 4]) -> MicTest
 
 // The MIC of the bytes ahead of it: of a join message, and of a data message.
 fn join_test(frame: &[u8], key: [u8; 16]) -> MicTest
-    requires { ⌜ 4 ≤ length (now frame) ⌝ }
-    ensures { λ r. ⌜ r ≡ answered (joinPasses key (now (frame .entry))) ⌝ }
+    requires { 4 ≤ length frame.now }
+    ensures { result ≡ answered (joinPasses key frame.now) }
 {
     let end = frame.len() - MIC_LEN;
     let right = calculate_mic(key, &frame[0..end]);
@@ -46,8 +44,8 @@ fn join_test(frame: &[u8], key: [u8; 16]) -> MicTest
 }
 
 fn data_test(frame: &[u8], key: [u8; 16], counter: u32) -> MicTest
-    requires { ⌜ 4 ≤ length (now frame) ⌝ }
-    ensures { λ r. ⌜ r ≡ answered (dataPasses key counter (now (frame .entry))) ⌝ }
+    requires { 4 ≤ length frame.now }
+    ensures { result ≡ answered (dataPasses key counter frame.now) }
 {
     let end = frame.len() - MIC_LEN;
     let right = calculate_data_mic(key, &frame[0..end], counter);
@@ -56,14 +54,14 @@ fn data_test(frame: &[u8], key: [u8; 16], counter: u32) -> MicTest
 
 // What a test answers at a reading of another type than it needs.
 fn no_test(reading: Reading) -> MicTest
-    ensures { λ r. ⌜ r ≡ MicTest.Refused (otherRefusal reading) ⌝ }
+    ensures { result ≡ MicTest.Refused (otherRefusal reading) }
 {
     MicTest::Refused(other_refusal(reading))
 }
 
 // 6.2.4: the MIC of a join-request.
 pub fn join_request_mic(frame: &[u8], app_key: [u8; 16]) -> MicTest
-    ensures { λ r. ⌜ r ≡ joinRequestTest «app_key» (now (frame .entry)) ⌝ }
+    ensures { result ≡ joinRequestTest app_key frame.now }
 {
     let reading = read(frame);
     let Reading::JoinRequest = reading else {
@@ -74,7 +72,7 @@ pub fn join_request_mic(frame: &[u8], app_key: [u8; 16]) -> MicTest
 
 // 6.2.5: the MIC of a join-accept that was decrypted.
 pub fn join_accept_mic(frame: &[u8], app_key: [u8; 16]) -> MicTest
-    ensures { λ r. ⌜ r ≡ joinAcceptTest «app_key» (now (frame .entry)) ⌝ }
+    ensures { result ≡ joinAcceptTest app_key frame.now }
 {
     let reading = read(frame);
     let Reading::JoinAccept(_) = reading else {
@@ -85,7 +83,7 @@ pub fn join_accept_mic(frame: &[u8], app_key: [u8; 16]) -> MicTest
 
 // 4.4: the MIC of a data frame. `counter` is the whole 32-bit counter.
 pub fn data_mic(frame: &[u8], nwk_skey: [u8; 16], counter: u32) -> MicTest
-    ensures { λ r. ⌜ r ≡ dataTest «nwk_skey» counter (now (frame .entry)) ⌝ }
+    ensures { result ≡ dataTest nwk_skey counter frame.now }
 {
     let reading = read(frame);
     let Reading::Data(_) = reading else {

@@ -1,23 +1,19 @@
 // The decryption of payloads (of the cryptographic half of parser.rs of the crate).
-ghost use mathlib.Core.Path.{_≡_};
-ghost use Rattle·frame.specs.Conditions.{IsData};
-ghost use Rattle·frame.specs.Reading.{dataOf};
-ghost use Rattle·frame.specs.ReadingNumbers.{otherRefusal};
-ghost use Rattle·frame_security.specs.Security.{frameKey};
-ghost use Rattle·frame_opening·specs.specs.FrameOpening.{result, decrypted, openedUnder, dataOpened};
+ghost use Rattle.std.specs.Prelude.{◌≡◌};
+ghost use Rattle.frame.specs.Conditions.{IsData};
+ghost use Rattle.frame.specs.Reading.{data_of};
+ghost use Rattle.frame.specs.ReadingNumbers.{otherRefusal};
+ghost use Rattle.frame_security.specs.Security.{frameKey};
+ghost use Rattle.frame_opening.specs.FrameOpening.{result, decrypted, openedUnder, dataOpened};
+
 use frame::keys::MaybeKey;
 use frame::numbers::other_refusal;
-use frame::parser::DataFrame;
-use frame::parser::Reading;
-use frame::parser::header_end;
-use frame::parser::read;
-use frame::refusals::INVALID_KEY;
-use frame::refusals::Refusal;
-use frame_security::securityhelpers::by_network_key;
-use frame_security::securityhelpers::encrypt_part;
-use frame_security::securityhelpers::full_counter;
+use frame::parser::{DataFrame, Reading, header_end, read};
+use frame::refusals::{INVALID_KEY, Refusal};
+use frame_security::securityhelpers::{by_network_key, encrypt_part, full_counter};
 
 // A frame was decrypted where it lies, or it was refused and no byte of it changed.
+#[derive(Drop)]
 pub enum Opening {
     Opened,
     Refused(Refusal),
@@ -25,15 +21,15 @@ pub enum Opening {
 
 // What an opening answers at a reading of another type than it needs.
 pub(crate) fn no_opening(reading: Reading) -> Opening
-    ensures { λ r. ⌜ r ≡ Opening.Refused (otherRefusal reading) ⌝ }
+    ensures* { λ r. ⌜ r ≡ Opening.Refused (otherRefusal reading) ⌝ }
 {
     Opening::Refused(other_refusal(reading))
 }
 
 // 4.3.3: the key of a frame that was read as data.
 fn key_of(frame: &[u8], fields: DataFrame, nwk_skey: MaybeKey, app_skey: MaybeKey) -> MaybeKey
-    requires { ⌜ IsData (now frame) × (fields ≡ dataOf (now frame)) ⌝ }
-    ensures { λ r. ⌜ r ≡ frameKey (now (frame .entry)) «nwk_skey» «app_skey» ⌝ }
+    requires { IsData frame.now × (fields ≡ data_of frame.now) }
+    ensures* { λ r. ⌜ r ≡ frameKey frame.now nwk_skey app_skey ⌝ }
 {
     let start = header_end(fields.fopts_end, fields.mic);
     if by_network_key(&frame[..start], fields.mic - start) {
@@ -44,8 +40,8 @@ fn key_of(frame: &[u8], fields: DataFrame, nwk_skey: MaybeKey, app_skey: MaybeKe
 
 // 4.3.3: decrypts the payload of a frame that was read as data. Where there is no payload nothing is written.
 fn decrypt_payload(frame: &mut [u8], fields: DataFrame, key: [u8; 16], counter: u32)
-    requires { ⌜ IsData (now frame) × (fields ≡ dataOf (now frame)) ⌝ }
-    ensures { λ _. ⌜ now (frame .exit) ≡ decrypted key counter (now (frame .entry)) ⌝ }
+    requires { IsData frame.old × (fields ≡ data_of frame.old) }
+    ensures* { λ _. ⌜ frame.new ≡ decrypted key counter frame.old ⌝ }
 {
     let start = header_end(fields.fopts_end, fields.mic);
     let mic = fields.mic;
@@ -57,8 +53,8 @@ fn decrypt_payload(frame: &mut [u8], fields: DataFrame, key: [u8; 16], counter: 
 }
 
 fn decrypt_under(frame: &mut [u8], fields: DataFrame, key: MaybeKey, counter: u32) -> Opening
-    requires { ⌜ IsData (now frame) × (fields ≡ dataOf (now frame)) ⌝ }
-    ensures { λ r. ⌜ result r (now (frame .exit)) ≡ openedUnder key counter (now (frame .entry)) ⌝ }
+    requires { IsData frame.old × (fields ≡ data_of frame.old) }
+    ensures* { λ r. ⌜ result r frame.new ≡ openedUnder key counter frame.old ⌝ }
 {
     let given = key.given;
     if given {
@@ -79,8 +75,8 @@ pub fn decrypt_data(
     app_skey: MaybeKey,
     counter: u32,
 ) -> Opening
-    ensures { λ r.
-        ⌜ result r (now (frame .exit)) ≡ dataOpened «nwk_skey» «app_skey» counter (now (frame .entry)) ⌝ }
+    ensures* { λ r.
+        ⌜ result r frame.new ≡ dataOpened nwk_skey app_skey counter frame.old ⌝ }
 {
     let reading = read(frame);
     let Reading::Data(fields) = reading else {

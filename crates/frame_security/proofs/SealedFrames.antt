@@ -2,25 +2,25 @@
 -- that payload, its MIC is right, and it reads as the frame did. And of any frame, sealing its own header and clear payload gives
 -- it back exactly where its MIC is right.
 -- Assumes nothing.
-use mathlib.Core.Path.{_≡_, refl, sym, ap, ap₂, _∙_, subst}
+use mathlib.Core.Path.{◌≡◌, refl, sym, ap, ap₂, ◌∙◌, subst}
 use mathlib.Core.Bool.{Bool, true, false}
-use mathlib.Core.List.{List, [], _∷_, _++_, append-assoc}
-use Prim.Native.Nat.{ℕ, _-_, _<_}
+use mathlib.Core.List.{List, [], ◌∷◌, ◌++◌, append_assoc}
+use Prim.Native.Nat.{ℕ, ◌-◌, ◌<◌}
 use native.Mathlib.Omega.{arith}
 use lib.Dec.{eqb}
 use lib.ListN.{length, length-append, take-append-drop}
-use lib.Seq.{take-at}
+use lib.Seq.{take_at}
 use borrow.Author.Tests.{eq-eqb}
-use Rattle·base.specs.Bytes.{pick, at, zeros}
-use Rattle·frame.specs.Conditions.{IsData}
-use Rattle·frame.specs.Layout.{fcnt, headerEnd, header, payload, micOf}
-use Rattle·frame.specs.Reading.{readOf}
-use Rattle·frame.proofs.LayoutLaws.{before-mic}
-use Rattle·frame.proofs.Replaced as replaced
-use Rattle·frame_security·specs.specs.Mic.{sameBytes}
-use Rattle·frame_security·specs.specs.Sealing.{enciphered, sealed, clearOf, resealed, appended, sealedFrame}
-use Rattle·frame_security·specs.specs.Security.{crypted, covered, dataMic, frameKey, payloadKey}
-use Rattle·frame_security·proofs.proofs.SecurityLaws.{crypted-long, crypted-twice, dataMic-long}
+use Rattle.base.specs.Bytes.{pick, at, zeros}
+use Rattle.frame.specs.Conditions.{IsData}
+use Rattle.frame.specs.Layout.{fcnt, headerEnd, header, payload, micOf}
+use Rattle.frame.specs.Reading.{read_of}
+use Rattle.frame.proofs.LayoutLaws.{before-mic}
+use Rattle.frame.proofs.Replaced as replaced
+use Rattle.frame_security.specs.Mic.{sameBytes}
+use Rattle.frame_security.specs.Sealing.{enciphered, sealed, clearOf, resealed, appended, sealedFrame}
+use Rattle.frame_security.specs.Security.{crypted, covered, dataMic, frameKey, payloadKey}
+use Rattle.frame_security.proofs.SecurityLaws.{crypted-long, crypted-twice, dataMic-long}
 
 pub clear-long : (f nwk app : List ℕ) (counter : ℕ) → length (clearOf f nwk app counter) ≡ length (payload f)
 clear-long f nwk app counter = crypted-long (frameKey f nwk app) (header f) counter (payload f)
@@ -57,55 +57,55 @@ module _ (f nwk app : List ℕ) (counter : ℕ) (h : IsData f) (p : List ℕ) (s
   m-long = dataMic-long nwk (header f ++ c) counter
 
   -- header, payload, MIC
-  in-three : s ≡ header f ++ (c ++ m)
+  in_three : s ≡ header f ++ (c ++ m)
   unfolding c m s
-  in-three =
+  in_three =
       let body = crypted (frameKey f nwk app) (header f) counter p in
-      sealed-by f nwk app counter p same ∙ append-assoc (header f) body (dataMic nwk (header f ++ body) counter)
+      sealed-by f nwk app counter p same ∙ append_assoc (header f) body (dataMic nwk (header f ++ body) counter)
 
   pub sealed-long : length (sealed nwk app counter (header f) p) ≡ length f
   unfolding s
-  sealed-long = ap length in-three ∙ replaced.replaced-long f h c m c-long m-long
+  sealed-long = ap length in_three ∙ replaced.replaced-long f h c m c-long m-long
 
   -- a byte of the header
   pub sealed-at : (i : ℕ) → i < headerEnd f → at (sealed nwk app counter (header f) p) i ≡ at f i
   unfolding s
-  sealed-at i l = ap (λ (t : List ℕ). at t i) in-three ∙ replaced.replaced-at f h c m c-long m-long i l
+  sealed-at i l = ap (λ (t : List ℕ). at t i) in_three ∙ replaced.replaced-at f h c m c-long m-long i l
 
   pub sealed-end : headerEnd (sealed nwk app counter (header f) p) ≡ headerEnd f
   unfolding s
-  sealed-end = ap headerEnd in-three ∙ replaced.replaced-end f h c m c-long m-long
+  sealed-end = ap headerEnd in_three ∙ replaced.replaced-end f h c m c-long m-long
 
   pub sealed-header : header (sealed nwk app counter (header f) p) ≡ header f
   unfolding s
-  sealed-header = ap header in-three ∙ replaced.replaced-header f h c m c-long m-long
+  sealed-header = ap header in_three ∙ replaced.replaced-header f h c m c-long m-long
 
   pub sealed-payload : payload (sealed nwk app counter (header f) p) ≡ crypted (frameKey f nwk app) (header f) counter p
   unfolding s c
-  sealed-payload = ap payload in-three ∙ replaced.replaced-payload f h c m c-long m-long
+  sealed-payload = ap payload in_three ∙ replaced.replaced-payload f h c m c-long m-long
 
   pub sealed-covered : covered (sealed nwk app counter (header f) p) ≡ header f ++ crypted (frameKey f nwk app) (header f) counter p
   unfolding s c
-  sealed-covered = ap covered in-three ∙ replaced.replaced-ahead f h c m c-long m-long
+  sealed-covered = ap covered in_three ∙ replaced.replaced-ahead f h c m c-long m-long
 
   pub sealed-fcnt : fcnt (sealed nwk app counter (header f) p) ≡ fcnt f
   unfolding s
-  sealed-fcnt = ap fcnt in-three ∙ replaced.replaced-fcnt f h c m c-long m-long
+  sealed-fcnt = ap fcnt in_three ∙ replaced.replaced-fcnt f h c m c-long m-long
 
-  pub sealed-read : readOf (sealed nwk app counter (header f) p) ≡ readOf f
+  pub sealed-read : read_of (sealed nwk app counter (header f) p) ≡ read_of f
   unfolding s
-  sealed-read = ap readOf in-three ∙ replaced.replaced-read f h c m c-long m-long
+  sealed-read = ap read_of in_three ∙ replaced.replaced-read f h c m c-long m-long
 
   pub sealed-data : IsData (sealed nwk app counter (header f) p)
   unfolding s
-  sealed-data = subst (λ (t : List ℕ). IsData t) (sym in-three) (replaced.replaced-data f h c m c-long m-long)
+  sealed-data = subst (λ (t : List ℕ). IsData t) (sym in_three) (replaced.replaced-data f h c m c-long m-long)
 
   -- its MIC is that of all the bytes ahead of it
   pub sealed-signed : dataMic nwk (covered (sealed nwk app counter (header f) p)) counter ≡ micOf (sealed nwk app counter (header f) p)
   unfolding s c m
   sealed-signed =
       ap (λ (t : List ℕ). dataMic nwk t counter) sealed-covered
-      ∙ sym (ap micOf in-three ∙ replaced.replaced-mic f h c m c-long m-long)
+      ∙ sym (ap micOf in_three ∙ replaced.replaced-mic f h c m c-long m-long)
 
   -- and its payload, in the clear, is the one that was sealed
   pub sealed-clear : clearOf (sealed nwk app counter (header f) p) nwk app counter ≡ p
@@ -146,22 +146,22 @@ module _ (f nwk app : List ℕ) (counter : ℕ) where
 pub parts-back : (c : List ℕ) → header (appended c) ++ payload (appended c) ≡ c
 parts-back c =
     before-mic (appended c)
-    ∙ take-at c (zeros 4) (length (appended c) - 4) (sym (ap (λ (n : ℕ). n - 4) (length-append c (zeros 4)) ∙ omega arith))
+    ∙ take_at c (zeros 4) (length (appended c) - 4) (sym (ap (λ (n : ℕ). n - 4) (length-append c (zeros 4)) ∙ omega arith))
 
 module _ (f nwk app : List ℕ) (counter : ℕ) (h : IsData f) (p : List ℕ) (same : length p ≡ length (payload f)) where
-  in-place : appended (header f ++ p) ≡ header f ++ (p ++ zeros 4)
-  in-place = append-assoc (header f) p (zeros 4)
+  in_place : appended (header f ++ p) ≡ header f ++ (p ++ zeros 4)
+  in_place = append_assoc (header f) p (zeros 4)
 
   -- the frame's own header with a payload as long: it reads as the frame does, and sealing puts these two together
-  pub appended-read : readOf (appended (header f ++ p)) ≡ readOf f
-  appended-read = ap readOf in-place ∙ replaced.replaced-read f h p (zeros 4) same refl
+  pub appended-read : read_of (appended (header f ++ p)) ≡ read_of f
+  appended-read = ap read_of in_place ∙ replaced.replaced-read f h p (zeros 4) same refl
 
   pub appended-fcnt : fcnt (appended (header f ++ p)) ≡ fcnt f
-  appended-fcnt = ap fcnt in-place ∙ replaced.replaced-fcnt f h p (zeros 4) same refl
+  appended-fcnt = ap fcnt in_place ∙ replaced.replaced-fcnt f h p (zeros 4) same refl
 
   pub appended-sealed : sealedFrame nwk app counter (header f ++ p) ≡ sealed nwk app counter (header f) p
   unfolding sealedFrame
   appended-sealed =
       ap₂ (λ (a b : List ℕ). sealed nwk app counter a b)
-      (ap header in-place ∙ replaced.replaced-header f h p (zeros 4) same refl)
-      (ap payload in-place ∙ replaced.replaced-payload f h p (zeros 4) same refl)
+      (ap header in_place ∙ replaced.replaced-header f h p (zeros 4) same refl)
+      (ap payload in_place ∙ replaced.replaced-payload f h p (zeros 4) same refl)

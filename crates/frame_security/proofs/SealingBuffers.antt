@@ -1,47 +1,47 @@
 -- Sealing the first bytes of a buffer: the frame may be read where it lies, whatever the four bytes behind it are; its header and
 -- payload are the buffer's own bytes; and when sealing is refused.
 -- Assumes nothing.
-use mathlib.Core.Path.{_≡_, refl, sym, ap, ap₂, _∙_}
+use mathlib.Core.Path.{◌≡◌, refl, sym, ap, ap₂, ◌∙◌}
 use mathlib.Core.Bool.{Bool}
-use mathlib.Core.List.{List, [], _∷_, _++_}
-use mathlib.Core.Logic.{⊎-elim}
-use Prim.Native.Nat.{ℕ, _+_, _-_, _%_, _≤_, _<_, min}
+use mathlib.Core.List.{List, [], ◌∷◌, ◌++◌}
+use mathlib.Core.Logic.{⊎_elim}
+use Prim.Native.Nat.{ℕ, ◌+◌, ◌-◌, ◌%◌, ◌≤◌, ◌<◌, min}
 use native.Mathlib.Omega.{arith}
 use types.Run.{OneOf}
-use denote.Enum.Declared.{tagOf}
-use lib.ListN.{length, take, drop, length-append, List·getD-append}
-use lib.Seq.{length-take-le, take-take, take-at, take-add}
-use borrow.Author.Tests.{le-leb, lt-leb, eq-eqb, ne-eqb}
-use Rattle·base.specs.Bytes.{pick, part, zeros}
-use Rattle·base.proofs.Cases.{by-order, by-equal}
-use Rattle·base.proofs.Lent.{part-long}
-use Rattle·base.proofs.Parts.{part-take}
-use Rattle·frame.specs.Conditions.{IsData}
-use Rattle·frame.specs.Layout.{fcnt, payloadEnd, headerEnd, header, payload}
-use Rattle·frame.specs.Reading.{dataOf, readOf}
-use Rattle·frame.specs.ReadingNumbers.{otherRefusal, onData}
-use Rattle·frame.specs.Refusals.{refused, notRefused}
-use Rattle·frame.specs.declared.refusals.Refusal.{Refusal}
-use Rattle·frame.specs.declared.parser.DataFrame.{DataFrame}
-use Rattle·frame.specs.declared.parser.Reading.{Reading}
-use Rattle·frame.specs.declared.parser.Reading.the-variants.{JoinRequest, JoinAccept, Data, Refused}
-use Rattle·frame.proofs.LayoutLaws.{read-same}
-use Rattle·frame.proofs.Others.{not-data}
-use Rattle·frame.proofs.ReadingLaws.{Says, answers, reads-data, data-fields, given-number}
-use Rattle·frame.proofs.parser.Reading as R
-use Rattle·frame_security·specs.specs.Security.{ofCounter}
-use Rattle·frame_security·specs.specs.Sealing.{sealed, appended, sealedFrame, counterRefusal, sealRefusal}
-use Rattle·frame_security·proofs.proofs.SealedFrames as frames
+use denote.Enum.Declared.{tag_of}
+use lib.ListN.{length, take, drop, length-append, get_or-append}
+use lib.Seq.{length-take-le, take-take, take_at, take-add}
+use borrow.Author.Tests.{le-leb, lt-leb, eq-eqb, ne_eqb}
+use Rattle.base.specs.Bytes.{pick, part, zeros}
+use Rattle.base.proofs.Cases.{by_order, by_equal}
+use Rattle.base.proofs.Lent.{part-long}
+use Rattle.base.proofs.Parts.{part-take}
+use Rattle.frame.specs.Conditions.{IsData}
+use Rattle.frame.specs.Layout.{fcnt, payloadEnd, headerEnd, header, payload}
+use Rattle.frame.specs.Reading.{data_of, read_of}
+use Rattle.frame.specs.ReadingNumbers.{otherRefusal, onData}
+use Rattle.frame.specs.Refusals.{refused, notRefused}
+use Rattle.frame.specs.declared.refusals.Refusal.{Refusal}
+use Rattle.frame.specs.declared.parser.DataFrame.{DataFrame}
+use Rattle.frame.specs.declared.parser.Reading.{Reading}
+use Rattle.frame.specs.declared.parser.Reading.TheVariants.{JoinRequest, JoinAccept, Data, Refused}
+use Rattle.frame.proofs.LayoutLaws.{read_same}
+use Rattle.frame.proofs.Others.{not-data}
+use Rattle.frame.proofs.ReadingLaws.{Says, answers, reads-data, data-fields, given-number}
+use Rattle.frame.specs.contracts.parser.Reading as R
+use Rattle.frame_security.specs.Security.{ofCounter}
+use Rattle.frame_security.specs.Sealing.{sealed, appended, sealedFrame, counterRefusal, sealRefusal}
+use Rattle.frame_security.proofs.SealedFrames as frames
 
 -- ---- the frame in the buffer
 
 -- reading does not look at the four bytes in the place of the MIC
-pub appended-any : (c x : List ℕ) → length x ≡ 4 → readOf (c ++ x) ≡ readOf (appended c)
+pub appended-any : (c x : List ℕ) → length x ≡ 4 → read_of (c ++ x) ≡ read_of (appended c)
 appended-any c x four =
     let long : length (c ++ x) ≡ length c + 4 = length-append c x ∙ omega arith in
-    read-same (c ++ x) (appended c) (long ∙ sym (length-append c (zeros 4)))
+    read_same (c ++ x) (appended c) (long ∙ sym (length-append c (zeros 4)))
     (λ i l.
-    List·getD-append c x 0 i (omega (arith, long)) ∙ sym (List·getD-append c (zeros 4) 0 i (omega (arith, long))))
+    get_or-append c x 0 i (omega (arith, long)) ∙ sym (get_or-append c (zeros 4) 0 i (omega (arith, long))))
 
 module _ (l : List ℕ) (n : ℕ) (room : n + 4 ≤ length l) where
   c : List ℕ
@@ -63,12 +63,12 @@ module _ (l : List ℕ) (n : ℕ) (room : n + 4 ≤ length l) where
   appended-long = f-long
 
   -- so the frame may be read where it lies
-  pub appended-read : readOf (take (n + 4) l) ≡ readOf (appended (take n l))
-  appended-read = ap readOf (take-add n 4 l) ∙ appended-any (take n l) (part n 4 l) (part-long n 4 l room)
+  pub appended-read : read_of (take (n + 4) l) ≡ read_of (appended (take n l))
+  appended-read = ap read_of (take-add n 4 l) ∙ appended-any (take n l) (part n 4 l) (part-long n 4 l room)
 
   front : take n f ≡ c
   unfolding f
-  front = take-at c (zeros 4) n c-long
+  front = take_at c (zeros 4) n c-long
 
   module _ (h : IsData (appended (take n l))) where
     start : ℕ
@@ -78,9 +78,9 @@ module _ (l : List ℕ) (n : ℕ) (room : n + 4 ≤ length l) where
     unfolding start
     inside = omega (arith, f-long)
 
-    header-is : header f ≡ take start l
+    header_is : header f ≡ take start l
     unfolding start c
-    header-is =
+    header_is =
         sym (take-take start n f inside)
         ∙ ap (take start) front
         ∙ take-take start n l inside
@@ -95,11 +95,11 @@ module _ (l : List ℕ) (n : ℕ) (room : n + 4 ≤ length l) where
         ∙ part-take start (n - start) n l (omega (arith, inside))
 
     -- where sealing begins and ends
-    pub seal-starts : {d : DataFrame} {k : ℕ} → readOf (appended (take n l)) ≡ Data d → k ≡ min (d .«fopts_end» + 1) n
+    pub seal-starts : {d : DataFrame} {k : ℕ} → read_of (appended (take n l)) ≡ Data d → k ≡ min (d.fopts_end + 1) n
         → k ≡ headerEnd (appended (take n l))
-    unfolding dataOf f c
+    unfolding data_of f c
     seal-starts q e =
-        let o = ap (λ (r : DataFrame). r .«fopts_end») (data-fields (appended (take n l)) q) in
+        let o = ap (λ (r : DataFrame). r.fopts_end) (data-fields (appended (take n l)) q) in
         omega (arith, o, f-long)
 
     pub sealed-first : (nwk app : List ℕ) (counter k : ℕ) → k ≡ headerEnd (appended (take n l))
@@ -113,7 +113,7 @@ module _ (l : List ℕ) (n : ℕ) (room : n + 4 ≤ length l) where
           sym long,
           made
               ∙ ap (λ (j : ℕ). sealed nwk app counter (take j l) (part j (n - j) l) ++ drop (n + 4) l) hk
-              ∙ ap₂ (λ (a b : List ℕ). sealed nwk app counter a b ++ drop (n + 4) l) (sym header-is) (sym payload-is)
+              ∙ ap₂ (λ (a b : List ℕ). sealed nwk app counter a b ++ drop (n + 4) l) (sym header_is) (sym payload-is)
               ∙ ap (λ (j : ℕ). whole ++ drop j l) (sym long),
         )
 
@@ -121,33 +121,33 @@ module _ (l : List ℕ) (n : ℕ) (room : n + 4 ≤ length l) where
 
 module _ (counter : ℕ) (f : List ℕ) where
   -- a reading of another type, or one that is refused
-  pub other-refused : OneOf (0 ∷ 1 ∷ 3 ∷ []) (tagOf R.the-type (readOf f)) → counterRefusal counter f ≡ otherRefusal (readOf f)
+  pub other-refused : OneOf (0 ∷ 1 ∷ 3 ∷ []) (tag_of R.the_type (read_of f)) → counterRefusal counter f ≡ otherRefusal (read_of f)
   unfolding counterRefusal
-  other-refused h = not-data (λ r. r) (λ d. pick (ofCounter counter f) notRefused (refused 14)) (readOf f) h
+  other-refused h = not-data (λ r. r) (λ d. pick (ofCounter counter f) notRefused (refused 14)) (read_of f) h
 
-  of-data : {d : DataFrame} → readOf f ≡ Data d → counterRefusal counter f ≡ pick (ofCounter counter f) notRefused (refused 14)
+  of-data : {d : DataFrame} → read_of f ≡ Data d → counterRefusal counter f ≡ pick (ofCounter counter f) notRefused (refused 14)
   unfolding counterRefusal
   of-data q = ap (onData (λ d. pick (ofCounter counter f) notRefused (refused 14)) (λ r. r)) q
 
-  pub counter-right : {d : DataFrame} → readOf f ≡ Data d → counter % 65536 ≡ fcnt f → counterRefusal counter f ≡ notRefused
+  pub counter-right : {d : DataFrame} → read_of f ≡ Data d → counter % 65536 ≡ fcnt f → counterRefusal counter f ≡ notRefused
   counter-right q e =
       of-data q ∙ ap (λ (t : Bool). pick t notRefused (refused 14)) (eq-eqb (counter % 65536) (fcnt f) e)
 
-  pub counter-wrong : {d : DataFrame} → readOf f ≡ Data d → (counter % 65536 ≡ fcnt f → ⊥) → counterRefusal counter f ≡ refused 14
+  pub counter-wrong : {d : DataFrame} → read_of f ≡ Data d → (counter % 65536 ≡ fcnt f → ⊥) → counterRefusal counter f ≡ refused 14
   counter-wrong q n =
-      of-data q ∙ ap (λ (t : Bool). pick t notRefused (refused 14)) (ne-eqb (counter % 65536) (fcnt f) n)
+      of-data q ∙ ap (λ (t : Bool). pick t notRefused (refused 14)) (ne_eqb (counter % 65536) (fcnt f) n)
 
 -- a reading that is not of data is refused by a number
-pub other-number : (f : List ℕ) (r : Reading) → Says f r → OneOf (0 ∷ 1 ∷ 3 ∷ []) (tagOf R.the-type r) → otherRefusal r .number ≡ 0 → ⊥
+pub other-number : (f : List ℕ) (r : Reading) → Says f r → OneOf (0 ∷ 1 ∷ 3 ∷ []) (tag_of R.the_type r) → (otherRefusal r).number ≡ 0 → ⊥
 other-number f JoinRequest s h e = omega arith
 other-number f (JoinAccept n) s h e = omega arith
-other-number f (Data d) s h e = ⊎-elim (λ q. omega arith) (λ k. ⊎-elim (λ q. omega arith) (λ q. omega arith) k) h
+other-number f (Data d) s h e = ⊎_elim (λ q. omega arith) (λ k. ⊎_elim (λ q. omega arith) (λ q. omega arith) k) h
 other-number f (Refused r) s h e = omega (arith, given-number f r s, e)
 
 module _ (counter n : ℕ) (l : List ℕ) where
-  pub no-room : length l < n + 4 → sealRefusal counter n l ≡ refused 7
+  pub no_room : length l < n + 4 → sealRefusal counter n l ≡ refused 7
   unfolding sealRefusal
-  no-room h = simp (lt-leb (n + 4) (length l) h)
+  no_room h = simp (lt-leb (n + 4) (length l) h)
 
   pub with-room : n + 4 ≤ length l → sealRefusal counter n l ≡ counterRefusal counter (appended (take n l))
   unfolding sealRefusal
@@ -158,36 +158,36 @@ module _ (counter n : ℕ) (l : List ℕ) where
 pub record Sealable (counter n : ℕ) (l : List ℕ) : Type 0 where
   pub room : n + 4 ≤ length l
   pub data-frame : IsData (appended (take n l))
-  pub low-half : counter % 65536 ≡ fcnt (appended (take n l))
+  pub low_half : counter % 65536 ≡ fcnt (appended (take n l))
 
 -- a data frame whose counter was not refused
 right-half : (counter : ℕ) (f : List ℕ) (r : Reading) → Says f r
-    → onData (λ d. pick (ofCounter counter f) notRefused (refused 14)) (λ x. x) r .number ≡ 0
+    → (onData (λ d. pick (ofCounter counter f) notRefused (refused 14)) (λ x. x) r).number ≡ 0
     → IsData f × (counter % 65536 ≡ fcnt f)
 right-half counter f JoinRequest s z = let none : ⊥ = omega arith in absurd none
 right-half counter f (JoinAccept k) s z = let none : ⊥ = omega arith in absurd none
 right-half counter f (Data d) s z =
-    by-equal (counter % 65536) (fcnt f) (λ e. (s .0, e))
+    by_equal (counter % 65536) (fcnt f) (λ e. (s.0, e))
     (λ n.
-    let w : pick (ofCounter counter f) notRefused (refused 14) .number ≡ 14 =
-    ap (λ (t : Bool). pick t notRefused (refused 14) .number) (ne-eqb (counter % 65536) (fcnt f) n) in
+    let w : (pick (ofCounter counter f) notRefused (refused 14)).number ≡ 14 =
+    ap (λ (t : Bool). (pick t notRefused (refused 14)).number) (ne_eqb (counter % 65536) (fcnt f) n) in
     let none : ⊥ = omega (arith, w, z) in
     absurd none)
 right-half counter f (Refused r) s z = absurd (omega (arith, given-number f r s, z))
 
 module _ (counter n : ℕ) (l : List ℕ) where
-  pub sealable : sealRefusal counter n l .number ≡ 0 → Sealable counter n l
+  pub sealable : (sealRefusal counter n l).number ≡ 0 → Sealable counter n l
   unfolding counterRefusal
   sealable z =
       let f = appended (take n l) in
-      by-order (n + 4) (length l)
+      by_order (n + 4) (length l)
       (λ r.
-      let h = right-half counter f (readOf f) (answers f) (ap (λ (x : Refusal). x .number) (sym (with-room counter n l r)) ∙ z) in
-      record { room = r; data-frame = h .0; low-half = h .1 })
-      (λ r. absurd (omega (arith, ap (λ (x : Refusal). x .number) (no-room counter n l r), z)))
+      let h = right-half counter f (read_of f) (answers f) (ap (λ (x : Refusal). x.number) (sym (with-room counter n l r)) ∙ z) in
+      record { room = r; data-frame = h.0; low_half = h.1 })
+      (λ r. absurd (omega (arith, ap (λ (x : Refusal). x.number) (no_room counter n l r), z)))
 
   -- and it is not refused
   pub sealable-accepted : Sealable counter n l → sealRefusal counter n l ≡ notRefused
   sealable-accepted s =
       let f = appended (take n l) in
-      with-room counter n l (s .room) ∙ counter-right counter f (reads-data f (s .data-frame)) (s .low-half)
+      with-room counter n l s.room ∙ counter-right counter f (reads-data f s.data-frame) s.low_half

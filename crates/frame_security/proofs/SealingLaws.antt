@@ -1,17 +1,17 @@
 -- Sealing where a frame lies: encrypting the payload in place and storing the MIC behind it gives the sealed frame, then the
 -- bytes that were there. Of a sealed frame: its length, and that its first bytes are its header's.
 -- Assumes nothing.
-use mathlib.Core.Path.{_≡_, sym, ap, ap₂, _∙_}
-use mathlib.Core.List.{List, _++_, append-assoc}
-use Prim.Native.Nat.{ℕ, _+_, _-_, _≤_}
+use mathlib.Core.Path.{◌≡◌, sym, ap, ap₂, ◌∙◌}
+use mathlib.Core.List.{List, ◌++◌, append_assoc}
+use Prim.Native.Nat.{ℕ, ◌+◌, ◌-◌, ◌≤◌}
 use native.Mathlib.Omega.{arith}
 use lib.ListN.{length, take, drop, length-append, length-drop}
-use lib.Seq.{sets, sets-eq, length-take-le, take-take, take-at, drop-at, drop-drop}
-use Rattle·base.specs.Bytes.{part}
-use Rattle·base.proofs.Lent.{part-long}
-use Rattle·frame_security·specs.specs.Security.{payloadKey, crypted, cryptedPart, dataMic}
-use Rattle·frame_security·specs.specs.Sealing.{enciphered, sealed}
-use Rattle·frame_security·proofs.proofs.SecurityLaws.{crypted-long, crypted-same, dataMic-long}
+use lib.Seq.{sets, sets-eq, length-take-le, take-take, take_at, drop_at, drop-drop}
+use Rattle.base.specs.Bytes.{part}
+use Rattle.base.proofs.Lent.{part-long}
+use Rattle.frame_security.specs.Security.{payloadKey, crypted, cryptedPart, dataMic}
+use Rattle.frame_security.specs.Sealing.{enciphered, sealed}
+use Rattle.frame_security.proofs.SecurityLaws.{crypted-long, crypted-same, dataMic-long}
 
 -- ---- lengths
 
@@ -34,7 +34,7 @@ module _ (nwk app : List ℕ) (counter : ℕ) (hdr p : List ℕ) where
       ++ (crypted (payloadKey hdr (length p) nwk app) hdr counter p ++ dataMic nwk (enciphered nwk app counter hdr p) counter)
   unfolding sealed enciphered
   sealed-parts =
-      append-assoc hdr (crypted (payloadKey hdr (length p) nwk app) hdr counter p)
+      append_assoc hdr (crypted (payloadKey hdr (length p) nwk app) hdr counter p)
       (dataMic nwk (hdr ++ crypted (payloadKey hdr (length p) nwk app) hdr counter p) counter)
 
 -- ---- in place
@@ -66,18 +66,18 @@ module _ (nwk app : List ℕ) (counter start end : ℕ) (out key e m f : List �
       (crypted-same out (take start out) (sym (take-take 5 start out (omega arith))) (payloadKey (take start out) (length (part start (end - start) out)) nwk app) counter
       (part start (end - start) out))
 
-  front-long : length (hdr ++ c) ≡ end
+  front_long : length (hdr ++ c) ≡ end
   unfolding hdr
-  front-long =
+  front_long =
       let h : length (take start out) ≡ start = length-take-le start out (omega arith) in
       length-append (take start out) c ∙ omega (arith, c-long)
 
   front : take end e ≡ enciphered nwk app counter hdr p
   unfolding enciphered c
-  front = ap (take end) e-is ∙ take-at (hdr ++ c) (drop end out) end front-long
+  front = ap (take end) e-is ∙ take_at (hdr ++ c) (drop end out) end front_long
 
   after : drop end e ≡ drop end out
-  after = ap (drop end) e-is ∙ drop-at (hdr ++ c) (drop end out) end front-long
+  after = ap (drop end) e-is ∙ drop_at (hdr ++ c) (drop end out) end front_long
 
   pub sealed-in-place : f ≡ sealed nwk app counter (take start out) (part start (end - start) out) ++ drop (end + 4) out
   unfolding sealed hdr p
@@ -86,7 +86,7 @@ module _ (nwk app : List ℕ) (counter start end : ℕ) (out key e m f : List �
       let el : length e ≡ length out =
       ap length e-is
       ∙ length-append (hdr ++ c) (drop end out)
-      ∙ omega (arith, front-long, length-drop end out) in
+      ∙ omega (arith, front_long, length-drop end out) in
       let rest : drop (end + length m) e ≡ drop (end + 4) out =
       ap (λ (n : ℕ). drop (end + n) e) ml
       ∙ sym (drop-drop 4 end e)

@@ -1,28 +1,28 @@
 -- Laws on the helper blocks, the key stream and encrypted payloads: lengths, that what encrypts also decrypts,
 -- what one changed byte does, and that only a frame's first five bytes count.
 -- Assumes nothing.
-use mathlib.Core.Path.{_≡_, refl, sym, ap, ap₂, _∙_}
+use mathlib.Core.Path.{◌≡◌, refl, sym, ap, ap₂, ◌∙◌}
 use mathlib.Core.Bool.{true, false}
-use mathlib.Core.List.{List, [], _∷_, _++_, append-nil}
-use Prim.Native.Nat.{ℕ, _+_, _-_, _/_, _%_, _<_, _≤_}
-use native.Mathlib.Nat.{not-suc-le-zero, le-of-eq}
+use mathlib.Core.List.{List, [], ◌∷◌, ◌++◌, append-nil}
+use Prim.Native.Nat.{ℕ, ◌+◌, ◌-◌, ◌/◌, ◌%◌, ◌<◌, ◌≤◌}
+use native.Mathlib.Nat.{not-suc-le-zero, le_of_eq}
 use native.Mathlib.Omega.{arith}
 use lib.ListN.{length, take, drop, set, length-append, length-take, length-drop}
 use lib.Dec.{eqb}
-use borrow.Author.Tests.{le-leb, lt-leb, ne-eqb}
-use Rattle·base.specs.Bytes.{pick, at, part, _⊕_, AreBytes}
-use Rattle·base.specs.Mask.{masked}
-use Rattle·base.proofs.Cases.{by-order}
-use Rattle·base.proofs.Mask.{masked-long, masked-at, masked-same, masked-twice, masked-set}
-use Rattle·base.proofs.Lent.{part-long, same-start, put-back, put-before, put-part, put-after, put-same}
-use Rattle·aes.specs.KeyExpansion.{keyExpansion}
-use Rattle·aes.specs.Fips197.{cipher}
-use Rattle·cmac.specs.Rfc4493.{mac}
-use Rattle·frame.specs.Layout.{fport}
-use Rattle·cmac.specs.Running.{started, absorbed, absorbedAll, joined, finished}
-use Rattle·cmac.proofs.CmacLaws.{mac-cutting}
-use Rattle·frame_security·proofs.proofs.MicLaws.{mic-long, mic-byte}
-use Rattle·frame_security·specs.specs.Security.{startOf, helperBlock, streamBlock, streamAt, crypted, cryptedPart, cryptedIn, byNetworkKey, payloadKey, micBlock, message, dataMic, joinMic}
+use borrow.Author.Tests.{le-leb, lt-leb, ne_eqb}
+use Rattle.base.specs.Bytes.{pick, at, part, ◌⊕◌, AreBytes}
+use Rattle.base.specs.Mask.{masked}
+use Rattle.base.proofs.Cases.{by_order}
+use Rattle.base.proofs.Mask.{masked-long, masked-at, masked_same, masked-twice, masked-set}
+use Rattle.base.proofs.Lent.{part-long, same_start, put_back, put-before, put-part, put-after, put_same}
+use Rattle.aes.specs.KeyExpansion.{keyExpansion}
+use Rattle.aes.specs.Fips197.{cipher}
+use Rattle.cmac.specs.Rfc4493.{mac}
+use Rattle.frame.specs.Layout.{fport}
+use Rattle.cmac.specs.Running.{started, absorbed, absorbedAll, joined, finished}
+use Rattle.cmac.proofs.CmacLaws.{mac-cutting}
+use Rattle.frame_security.proofs.MicLaws.{mic-long, mic-byte}
+use Rattle.frame_security.specs.Security.{start_of, helperBlock, streamBlock, streamAt, crypted, cryptedPart, cryptedIn, byNetworkKey, payloadKey, micBlock, message, dataMic, joinMic}
 
 -- ---- the helper block
 
@@ -36,28 +36,28 @@ micBlock-long msg counter = helperBlock-long 0x49 msg counter (length msg % 256)
 
 -- a helper block takes no more of a frame than its first five bytes
 pub helperBlock-start : (first : ℕ) (f : List ℕ) (counter last : ℕ)
-    → helperBlock first (startOf f) counter last ≡ helperBlock first f counter last
+    → helperBlock first (start_of f) counter last ≡ helperBlock first f counter last
 unfolding helperBlock
 helperBlock-start first f counter last = refl
 
 -- so do the key stream and what is encrypted with it
-pub streamBlock-start : (ks f : List ℕ) (counter j : ℕ) → streamBlock ks (startOf f) counter j ≡ streamBlock ks f counter j
+pub streamBlock-start : (ks f : List ℕ) (counter j : ℕ) → streamBlock ks (start_of f) counter j ≡ streamBlock ks f counter j
 unfolding streamBlock helperBlock
 streamBlock-start ks f counter j = refl
 
-pub streamAt-start : (ks f : List ℕ) (counter j : ℕ) → streamAt ks (startOf f) counter j ≡ streamAt ks f counter j
+pub streamAt-start : (ks f : List ℕ) (counter j : ℕ) → streamAt ks (start_of f) counter j ≡ streamAt ks f counter j
 unfolding streamAt
 streamAt-start ks f counter j = ap (λ (b : List ℕ). at b (j % 16)) (streamBlock-start ks f counter j)
 
-pub crypted-start : (key f : List ℕ) (counter : ℕ) (p : List ℕ) → crypted key (startOf f) counter p ≡ crypted key f counter p
+pub crypted-start : (key f : List ℕ) (counter : ℕ) (p : List ℕ) → crypted key (start_of f) counter p ≡ crypted key f counter p
 unfolding crypted
 crypted-start key f counter p =
     let ks = keyExpansion key in
-    masked-same p (streamAt ks (startOf f) counter) (streamAt ks f counter) (λ i l. streamAt-start ks f counter i)
+    masked_same p (streamAt ks (start_of f) counter) (streamAt ks f counter) (λ i l. streamAt-start ks f counter i)
 
 module _ (f g : List ℕ) (same : take 5 f ≡ take 5 g) where
-  start-same : startOf f ≡ startOf g
-  start-same = same-start 5 f g same
+  start-same : start_of f ≡ start_of g
+  start-same = same_start 5 f g same
 
   pub helperBlock-same : (first counter last : ℕ) → helperBlock first f counter last ≡ helperBlock first g counter last
   helperBlock-same first counter last =
@@ -102,7 +102,7 @@ pub by-port : (hdr : List ℕ) (n : ℕ) → 0 < n → byNetworkKey hdr n ≡ eq
 unfolding byNetworkKey
 by-port hdr n h =
     let some : n ≡ 0 → ⊥ = λ e. omega arith in
-    simp (ne-eqb n 0 some)
+    simp (ne_eqb n 0 some)
 
 -- and only the header's control byte and its port count
 pub by-same : (f g : List ℕ) (n : ℕ) → fport f ≡ fport g → byNetworkKey f n ≡ byNetworkKey g n
@@ -135,7 +135,7 @@ module _ (key f : List ℕ) (counter : ℕ) where
   pub crypted-none : (p : List ℕ) → length p ≡ 0 → p ≡ crypted key f counter p
   unfolding crypted masked
   crypted-none [] h = refl
-  crypted-none (a ∷ p) h = absurd (not-suc-le-zero (le-of-eq h))
+  crypted-none (a ∷ p) h = absurd (not-suc-le-zero (le_of_eq h))
 
 -- encrypting a part leaves the frame's length
 pub cryptedPart-long : (key f : List ℕ) (counter start end : ℕ) → start ≤ end → end ≤ length f
@@ -150,7 +150,7 @@ unfolding cryptedPart
 cryptedPart-nothing key f counter start end e =
     let none : length (part start (end - start) f) ≡ 0 = length-take (end - start) (drop start f) ∙ omega arith in
     ap (λ (l : List ℕ). take start f ++ l ++ drop end f) (sym (crypted-none key f counter (part start (end - start) f) none))
-    ∙ put-same start end f (omega arith)
+    ∙ put_same start end f (omega arith)
 
 -- decrypting a part that lies past the first five bytes gives the frame back
 pub cryptedPart-twice : (key f : List ℕ) (counter start end : ℕ) → 5 ≤ start → start ≤ end → end ≤ length f
@@ -168,15 +168,15 @@ cryptedPart-twice key f counter start end h5 h inside =
     ap₂ (λ (s t : List ℕ). s ++ crypted key g counter (part start (end - start) g) ++ t)
     (put-before start end f c h inside long start (omega arith)) (put-after start end f c h inside long)
     ∙ ap (λ (l : List ℕ). take start f ++ l ++ drop end f) clear
-    ∙ put-same start end f h
+    ∙ put_same start end f h
 
 -- a part that was lent, encrypted under the frame's own first bytes and put back
 pub lent-part : (key f : List ℕ) (counter start end : ℕ) (t : List ℕ) → start ≤ end
-    → t ≡ crypted key (startOf f) counter (part start (end - start) f)
+    → t ≡ crypted key (start_of f) counter (part start (end - start) f)
     → take start f ++ (t ++ drop (end - start) (drop start f)) ≡ cryptedPart key f counter start end
 unfolding cryptedPart
 lent-part key f counter start end t h e =
-    put-back start end f t h
+    put_back start end f t h
     ∙ ap (λ (l : List ℕ). take start f ++ l ++ drop end f) (e ∙ crypted-start key f counter (part start (end - start) f))
 
 -- of two places that lie in order within the frame
@@ -189,10 +189,10 @@ crypted-inside key f counter start end h inside = simp (le-leb start end h, le-l
 pub crypted-nothing : (key f : List ℕ) (counter start end : ℕ) → end ≤ start → f ≡ cryptedIn key f counter start end
 unfolding cryptedIn
 crypted-nothing key f counter start end h =
-    by-order start end
+    by_order start end
     (λ l.
     let same : start ≡ end = omega arith in
-    by-order end (length f)
+    by_order end (length f)
     (λ m. simp (le-leb start end l, le-leb end (length f) m) (sym (cryptedPart-nothing key f counter start end same)))
     (λ m. simp (le-leb start end l, lt-leb end (length f) m)))
     (λ l. simp (lt-leb start end l))

@@ -1,13 +1,10 @@
 -- A join-accept's encryption, from LoRaWAN 1.0 section 6.2.5: the network applies AES decryption to each block of sixteen bytes
 -- from byte 1, so that a device needs AES encryption alone.
 -- Assumes nothing.
-use mathlib.Core.Bool.{Bool}
-use mathlib.Core.List.{List, _++_}
-use Prim.Native.Nat.{ℕ, zero, suc, _/_}
-use lib.ListN.{length, take, drop}
-use Rattle·base.specs.Bytes.{pick}
-use Rattle·aes.specs.KeyExpansion.{keyExpansion}
-use Rattle·aes.specs.Fips197.{cipher, invCipher}
+use Rattle.std.specs.Prelude.{Bool, List, ◌++◌, ℕ, zero, suc, ◌/◌, length, take, drop}
+use Rattle.base.specs.Bytes.{pick}
+use Rattle.aes.specs.KeyExpansion.{keyExpansion}
+use Rattle.aes.specs.Fips197.{cipher, invCipher}
 
 -- f on each of the first n blocks of sixteen bytes; the rest as it is
 unfoldable pub eachBlock : (List ℕ → List ℕ) → ℕ → List ℕ → List ℕ

@@ -1,12 +1,8 @@
 -- Message integrity codes, from LoRaWAN 1.0, section 4.4: the first four bytes of an AES-CMAC tag; and when two are the same.
 -- Assumes nothing.
-use mathlib.Core.Bool.{Bool, true, false}
-use mathlib.Core.List.{List, [], _∷_}
-use Prim.Native.Nat.{ℕ}
-use lib.Dec.{eqb}
-use lib.ListN.{take}
-use Rattle·base.specs.Bytes.{pick}
-use Rattle·cmac.specs.Rfc4493.{mac}
+use Rattle.std.specs.Prelude.{Bool, true, false, List, [], ◌∷◌, ℕ, eqb, take}
+use Rattle.base.specs.Bytes.{pick}
+use Rattle.cmac.specs.Rfc4493.{mac}
 
 -- 4.4: the code of a message under a key
 unfoldable pub mic : List ℕ → List ℕ → List ℕ

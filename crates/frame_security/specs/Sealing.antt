@@ -1,17 +1,14 @@
 -- Sealing a data frame, from LoRaWAN 1.0 sections 4.3.3 and 4.4 (docs/RULES.md, Building): a header and a clear payload, encrypted
 -- and signed. Building, sealing and amending speak of it alike.
 -- Assumes nothing.
-use mathlib.Core.List.{List, _++_}
-use Prim.Native.Nat.{ℕ, _+_}
-use lib.Dec.{leb}
-use lib.ListN.{length, take}
-use Rattle·base.specs.Bytes.{pick, zeros}
-use Rattle·frame.specs.Layout.{header, payload}
-use Rattle·frame.specs.Reading.{readOf}
-use Rattle·frame.specs.ReadingNumbers.{onData}
-use Rattle·frame.specs.Refusals.{refused, notRefused}
-use Rattle·frame.specs.declared.refusals.Refusal.{Refusal}
-use Rattle·frame_security·specs.specs.Security.{payloadKey, frameKey, crypted, ofCounter, dataMic}
+use Rattle.std.specs.Prelude.{List, ◌++◌, ℕ, ◌+◌, leb, length, take}
+use Rattle.base.specs.Bytes.{pick, zeros}
+use Rattle.frame.specs.Layout.{header, payload}
+use Rattle.frame.specs.Reading.{read_of}
+use Rattle.frame.specs.ReadingNumbers.{onData}
+use Rattle.frame.specs.Refusals.{refused, notRefused}
+use Rattle.frame.specs.declared.refusals.Refusal.{Refusal}
+use Rattle.frame_security.specs.Security.{payloadKey, frameKey, crypted, ofCounter, dataMic}
 
 -- 4.3.3 the header, then the payload encrypted
 unfoldable pub enciphered : List ℕ → List ℕ → ℕ → List ℕ → List ℕ → List ℕ
@@ -45,7 +42,7 @@ sealedFrame nwk app counter c = sealed nwk app counter (header (appended c)) (pa
 -- what is refused of a frame that is to be one of data and of this counter: what reading refuses, 4 for another type, 14 for
 -- another counter
 unfoldable pub counterRefusal : ℕ → List ℕ → Refusal
-counterRefusal counter f = onData (λ d. pick (ofCounter counter f) notRefused (refused 14)) (λ r. r) (readOf f)
+counterRefusal counter f = onData (λ d. pick (ofCounter counter f) notRefused (refused 14)) (λ r. r) (read_of f)
 
 -- the refusals of sealing the first n bytes of a buffer: 7 where there is no room for the MIC behind them, then these
 unfoldable pub sealRefusal : ℕ → ℕ → List ℕ → Refusal

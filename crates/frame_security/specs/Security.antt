@@ -1,22 +1,18 @@
 -- Keys and secrets of a frame, from LoRaWAN 1.0: payload encryption (4.3.3), the frame counter (4.3.1.5), the MIC (4.4,
 -- 6.2.4, 6.2.5). Over the cipher of FIPS 197 and the MAC of RFC 4493 by their definitions.
 -- Assumes nothing.
-use mathlib.Core.Bool.{Bool, true}
-use mathlib.Core.List.{List, [], _∷_, _++_}
-use Prim.Native.Nat.{ℕ, _+_, _-_, _*_, _/_, _%_}
-use lib.Dec.{leb, eqb}
-use lib.ListN.{length, take, drop}
-use Rattle·base.specs.Bytes.{pick, tab, at, part}
-use Rattle·base.specs.Mask.{masked}
-use Rattle·aes.specs.KeyExpansion.{keyExpansion}
-use Rattle·aes.specs.Fips197.{cipher}
-use Rattle·frame_security·specs.specs.Mic.{mic}
-use Rattle·frame.specs.Layout.{direction, fcnt, fport, header, payload}
+use Rattle.std.specs.Prelude.{Bool, true, List, [], ◌∷◌, ◌++◌, ℕ, ◌+◌, ◌-◌, ◌*◌, ◌/◌, ◌%◌, leb, eqb, length, take, drop}
+use Rattle.base.specs.Bytes.{pick, tab, at, part}
+use Rattle.base.specs.Mask.{masked}
+use Rattle.aes.specs.KeyExpansion.{keyExpansion}
+use Rattle.aes.specs.Fips197.{cipher}
+use Rattle.frame_security.specs.Mic.{mic}
+use Rattle.frame.specs.Layout.{direction, fcnt, fport, header, payload}
 
 -- the first five bytes of a frame, MHDR and DevAddr, which hold all that a helper block takes of it; 0 where there is
 -- none
-abbrev pub startOf : List ℕ → List ℕ
-startOf f = tab 5 (at f)
+abbrev pub start_of : List ℕ → List ℕ
+start_of f = tab 5 (at f)
 
 -- 4.3.3.1 A_i and 4.4 B_0: the first byte, four zeros, direction, DevAddr, the counter low byte first, 0, and the last
 -- byte. The direction and the address are those of a frame's own first bytes.

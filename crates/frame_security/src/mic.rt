@@ -1,18 +1,17 @@
 // Message integrity codes (LoRaWAN 1.0, 4.4; keys.rs of the crate): the first four bytes of a tag.
-ghost use mathlib.Core.Path.{_≡_};
-ghost use lib.ListN.{take};
-ghost use Rattle·frame_security·specs.specs.Mic.{sameBytes};
+ghost use Rattle.std.specs.Prelude.{◌≡◌, take};
+ghost use Rattle.frame_security.specs.Mic.{sameBytes};
 
 // A message integrity code is the tag's first four bytes.
 pub fn mic_of(tag: [u8; 16]) -> [u8; 4]
-    ensures { λ r. ⌜ r ≡ take 4 tag ⌝ }
+    ensures { result ≡ take 4 tag }
 {
     [tag[0], tag[1], tag[2], tag[3]]
 }
 
 // Whether two codes are the same. It looks at all four bytes, whatever it finds.
 pub fn same_mic(a: [u8; 4], b: [u8; 4]) -> bool
-    ensures { λ r. ⌜ r ≡ sameBytes a b ⌝ }
+    ensures { result ≡ sameBytes a b }
 {
     ((a[0] ^ b[0]) | ((a[1] ^ b[1]) | ((a[2] ^ b[2]) | (a[3] ^ b[3])))) == 0
 }

@@ -1,43 +1,35 @@
 // Sealing a clear data frame where it lies (LoRaWAN 1.0, 4.3.3 and 4.4): its payload is encrypted, and the MIC stored behind
 // it. Who seals needs the keys and no more; who fills a frame (frame_build) needs none.
-ghost use mathlib.Core.Path.{_≡_};
-ghost use mathlib.Core.List.{_++_};
-ghost use Prim.Native.Nat.{_+_, _-_, _≤_};
-ghost use lib.Dec.{leb};
-ghost use lib.ListN.{length, take, drop};
-ghost use Rattle·base.specs.Bytes.{part};
-ghost use Rattle·frame.specs.Refusals.{refused};
-ghost use Rattle·frame_security·specs.specs.Security.{payloadKey};
-ghost use Rattle·frame_security·specs.specs.Built.{Builds};
-ghost use Rattle·frame_security·specs.specs.Sealing.{sealed, sealedFrame, sealRefusal};
-ghost use Rattle·frame_security·specs.specs.declared.sealing.Built.the-variants.{Refused};
-use crate::securityhelpers::by_network_key;
-use crate::securityhelpers::calculate_data_mic;
-use crate::securityhelpers::encrypt_part;
+ghost use Rattle.std.specs.Prelude.{◌≡◌, ◌++◌, ◌+◌, ◌-◌, ◌≤◌, leb, length, take, drop};
+ghost use Rattle.base.specs.Bytes.{part};
+ghost use Rattle.frame.specs.Refusals.{refused};
+ghost use Rattle.frame_security.specs.Security.{payloadKey};
+ghost use Rattle.frame_security.specs.Built.{Builds};
+ghost use Rattle.frame_security.specs.Sealing.{sealed, sealedFrame, sealRefusal};
+ghost use Rattle.frame_security.specs.declared.sealing.Built.TheVariants.{Refused};
+
+use crate::securityhelpers::{by_network_key, calculate_data_mic, encrypt_part};
 use frame::numbers::other_refusal;
 use frame::packet_length::MIC_LEN;
-use frame::parser::Reading;
-use frame::parser::header_end;
-use frame::parser::read;
-use frame::refusals::BUFFER_TOO_SHORT;
-use frame::refusals::COUNTER_MISMATCH;
-use frame::refusals::Refusal;
+use frame::parser::{Reading, header_end, read};
+use frame::refusals::{BUFFER_TOO_SHORT, COUNTER_MISMATCH, Refusal};
 
 // What filling, sealing and building give: how many bytes the frame now has at the start of the output, or a refusal.
+#[derive(Drop)]
 pub enum Built {
     Frame(usize),
     Refused(Refusal),
 }
 
 fn not_sealed(number: u8) -> Built
-    ensures { λ r. ⌜ r ≡ Refused (refused number) ⌝ }
+    ensures { result ≡ Refused (refused number) }
 {
     Built::Refused(Refusal { number, place: 0 })
 }
 
 // Whether `room` bytes hold a clear frame of `length` bytes and its MIC; the sum of the two might not fit a number.
 fn has_room(room: usize, length: usize) -> bool
-    ensures { λ r. ⌜ r ≡ leb (length + 4) room ⌝ }
+    ensures { result ≡ leb (length + 4) room }
 {
     if room < MIC_LEN {
         return false;
@@ -47,7 +39,7 @@ fn has_room(room: usize, length: usize) -> bool
 
 // The key of a payload of `count` bytes.
 fn payload_key(header: &[u8], count: usize, nwk_skey: [u8; 16], app_skey: [u8; 16]) -> [u8; 16]
-    ensures { λ r. ⌜ r ≡ payloadKey (now (header .entry)) count «nwk_skey» «app_skey» ⌝ }
+    ensures { result ≡ payloadKey header.now count nwk_skey app_skey }
 {
     if by_network_key(header, count) {
         return nwk_skey;
@@ -63,11 +55,10 @@ fn seal_inside(
     nwk_skey: [u8; 16],
     app_skey: [u8; 16],
 )
-    requires { ⌜ (8 ≤ start) × (start ≤ end) × (end + 4 ≤ length (now out)) ⌝ }
-    ensures { λ _.
-        ⌜ now (out .exit)
-        ≡ sealed «nwk_skey» «app_skey» counter (take start (now (out .entry))) (part start (end - start) (now (out .entry)))
-        ++ drop (end + 4) (now (out .entry)) ⌝ }
+    requires { (8 ≤ start) × (start ≤ end) × (end + 4 ≤ length out.old) }
+    ensures { out.new
+        ≡ sealed nwk_skey app_skey counter (take start out.old) (part start (end - start) out.old)
+        ++ drop (end + 4) out.old }
 {
     let key = payload_key(&out[..start], end - start, nwk_skey, app_skey);
     encrypt_part(key, out, counter, start, end);
@@ -86,9 +77,8 @@ pub fn seal_data(
     nwk_skey: [u8; 16],
     app_skey: [u8; 16],
 ) -> Built
-    ensures { λ r.
-        ⌜ Builds (sealRefusal counter length (now (out .entry)))
-        (sealedFrame «nwk_skey» «app_skey» counter (take length (now (out .entry)))) (now (out .entry)) r (now (out .exit)) ⌝ }
+    ensures { Builds (sealRefusal counter length out.old)
+        (sealedFrame nwk_skey app_skey counter (take length out.old)) out.old result out.new }
 {
     if has_room(out.len(), length) {
         let reading = read(&out[..length + MIC_LEN]);

@@ -1,12 +1,10 @@
 // The helper blocks, MICs, payload encryption and the counter (securityhelpers.rs of the crate).
-ghost use mathlib.Core.Path.{_≡_};
-ghost use Prim.Native.Nat.{_+_, _≤_, min};
-ghost use mathlib.Core.List.{_++_};
-ghost use lib.ListN.{length};
-ghost use Rattle·base.specs.Bytes.{at};
-ghost use Rattle·base.specs.Mask.{masked};
-ghost use Rattle·frame_security·specs.specs.Mic.{mic};
-ghost use Rattle·frame_security·specs.specs.Security.{startOf, helperBlock, blockNumber, streamBlock, streamAt, crypted, cryptedPart, cryptedIn, byNetworkKey, fullCounter, micBlock, dataMic, joinMic};
+ghost use Rattle.std.specs.Prelude.{◌≡◌, ◌+◌, ◌≤◌, min, ◌++◌, length};
+ghost use Rattle.base.specs.Bytes.{at};
+ghost use Rattle.base.specs.Mask.{masked};
+ghost use Rattle.frame_security.specs.Mic.{mic};
+ghost use Rattle.frame_security.specs.Security.{start_of, helperBlock, blockNumber, streamBlock, streamAt, crypted, cryptedPart, cryptedIn, byNetworkKey, fullCounter, micBlock, dataMic, joinMic};
+
 use crate::mic::mic_of;
 use base::storing::byte_at;
 use frame::packet_length::FCTRL_AT;
@@ -14,7 +12,7 @@ use frame::parser::fhdr_length;
 
 // MHDR and DevAddr of a frame: what a helper block takes of it.
 pub fn start_of(frame: &[u8]) -> [u8; 5]
-    ensures { λ r. ⌜ r ≡ startOf (now (frame .entry)) ⌝ }
+    ensures { result ≡ start_of frame.now }
 {
     let mut start = [0u8; 5];
     let mut i: usize = 0;
@@ -27,7 +25,7 @@ pub fn start_of(frame: &[u8]) -> [u8; 5]
 
 // The blocks A_i (4.3.3.1) and B_0 (4.4), from a frame's first five bytes.
 fn helper_block(first: u8, start: [u8; 5], counter: u32, last: u8) -> [u8; 16]
-    ensures { λ r. ⌜ r ≡ helperBlock first start counter last ⌝ }
+    ensures { result ≡ helperBlock first start counter last }
 {
     [
         first,
@@ -51,8 +49,8 @@ fn helper_block(first: u8, start: [u8; 5], counter: u32, last: u8) -> [u8; 16]
 
 // Exclusive or of at most 16 bytes with one block of the key stream.
 fn xor_block(bytes: &mut [u8], block: &[u8; 16])
-    requires { ⌜ length (now bytes) ≤ 16 ⌝ }
-    ensures { λ _. ⌜ now (bytes .exit) ≡ masked (now (bytes .entry)) (at (now (block .entry))) ⌝ }
+    requires { length bytes.old ≤ 16 }
+    ensures { bytes.new ≡ masked bytes.old (at block.now) }
 {
     let mut i: usize = 0;
     while i < bytes.len() {
@@ -63,8 +61,8 @@ fn xor_block(bytes: &mut [u8], block: &[u8; 16])
 
 // The place past the block that begins at `start`, in a payload of `len` bytes.
 fn block_end(start: usize, len: usize) -> usize
-    requires { ⌜ start ≤ len ⌝ }
-    ensures { λ r. ⌜ r ≡ min (start + 16) len ⌝ }
+    requires { start ≤ len }
+    ensures { result ≡ min (start + 16) len }
 {
     if len - start < 16 {
         return len;
@@ -74,14 +72,14 @@ fn block_end(start: usize, len: usize) -> usize
 
 // The number of the block that holds byte `i` of a payload, from 1, in one byte.
 fn block_number(i: usize) -> u8
-    ensures { λ r. ⌜ r ≡ blockNumber i ⌝ }
+    ensures { result ≡ blockNumber i }
 {
     ((i / 16 + 1) % 256) as u8
 }
 
 // 4.3.3.1: the block of the key stream that holds byte `i` of a payload, of the frame's first five bytes.
 pub fn stream_block(schedule: &[u8; 176], start: [u8; 5], counter: u32, i: usize) -> [u8; 16]
-    ensures { λ r. ⌜ r ≡ streamBlock (now (schedule .entry)) start counter i ⌝ }
+    ensures { result ≡ streamBlock schedule.now start counter i }
 {
     let block = helper_block(1, start, counter, block_number(i));
     aes::encrypt_under(schedule, block)
@@ -89,7 +87,7 @@ pub fn stream_block(schedule: &[u8; 176], start: [u8; 5], counter: u32, i: usize
 
 // A whole payload, exclusive-or the key stream.
 fn xor_stream(schedule: &[u8; 176], start: [u8; 5], counter: u32, payload: &mut [u8])
-    ensures { λ _. ⌜ now (payload .exit) ≡ masked (now (payload .entry)) (streamAt (now (schedule .entry)) start counter) ⌝ }
+    ensures { payload.new ≡ masked payload.old (streamAt schedule.now start counter) }
 {
     let mut i: usize = 0;
     while i < payload.len() {
@@ -103,7 +101,7 @@ fn xor_stream(schedule: &[u8; 176], start: [u8; 5], counter: u32, payload: &mut 
 // 4.3.3.1: encrypts a payload where it lies, and decrypts one that was encrypted. `start` is the frame's first five
 // bytes.
 pub fn encrypt_frm_data_payload(key: [u8; 16], start: [u8; 5], counter: u32, payload: &mut [u8])
-    ensures { λ _. ⌜ now (payload .exit) ≡ crypted key start counter (now (payload .entry)) ⌝ }
+    ensures { payload.new ≡ crypted key start counter payload.old }
 {
     if payload.len() == 0 {
         return;
@@ -113,8 +111,8 @@ pub fn encrypt_frm_data_payload(key: [u8; 16], start: [u8; 5], counter: u32, pay
 }
 
 fn crypt_inside(key: [u8; 16], frame: &mut [u8], counter: u32, start: usize, end: usize)
-    requires { ⌜ (start ≤ end) × (end ≤ length (now frame)) ⌝ }
-    ensures { λ _. ⌜ now (frame .exit) ≡ cryptedPart key (now (frame .entry)) counter start end ⌝ }
+    requires { (start ≤ end) × (end ≤ length frame.old) }
+    ensures { frame.new ≡ cryptedPart key frame.old counter start end }
 {
     let first = start_of(frame);
     encrypt_frm_data_payload(key, first, counter, &mut frame[start..end]);
@@ -123,7 +121,7 @@ fn crypt_inside(key: [u8; 16], frame: &mut [u8], counter: u32, start: usize, end
 // The same of the bytes start..end of a frame. Nothing is written where there are none, or where these do not lie in order
 // within it.
 pub fn encrypt_part(key: [u8; 16], frame: &mut [u8], counter: u32, start: usize, end: usize)
-    ensures { λ _. ⌜ now (frame .exit) ≡ cryptedIn key (now (frame .entry)) counter start end ⌝ }
+    ensures { frame.new ≡ cryptedIn key frame.old counter start end }
 {
     if end <= start {
         return;
@@ -136,7 +134,7 @@ pub fn encrypt_part(key: [u8; 16], frame: &mut [u8], counter: u32, start: usize,
 
 // 4.3.3: whether a payload of `count` bytes is under the network key, by the header ahead of it.
 pub fn by_network_key(header: &[u8], count: usize) -> bool
-    ensures { λ r. ⌜ r ≡ byNetworkKey (now (header .entry)) count ⌝ }
+    ensures { result ≡ byNetworkKey header.now count }
 {
     if count == 0 {
         return true;
@@ -147,14 +145,14 @@ pub fn by_network_key(header: &[u8], count: usize) -> bool
 
 // The counter of a frame that carries its low half: the high half is the caller's.
 pub fn full_counter(counter: u32, fcnt: u16) -> u32
-    ensures { λ r. ⌜ r ≡ fullCounter counter fcnt ⌝ }
+    ensures { result ≡ fullCounter counter fcnt }
 {
     counter / 65536 * 65536 + (fcnt as u32)
 }
 
 // 4.4: B_0, of every byte of a data frame ahead of the MIC.
 pub fn mic_block(message: &[u8], counter: u32) -> [u8; 16]
-    ensures { λ r. ⌜ r ≡ micBlock (now (message .entry)) counter ⌝ }
+    ensures { result ≡ micBlock message.now counter }
 {
     let start = start_of(message);
     helper_block(0x49, start, counter, (message.len() % 256) as u8)
@@ -162,7 +160,7 @@ pub fn mic_block(message: &[u8], counter: u32) -> [u8; 16]
 
 // The MIC of a block and the message behind it.
 fn calculate_mic_with_header(key: [u8; 16], header: [u8; 16], message: &[u8]) -> [u8; 4]
-    ensures { λ r. ⌜ r ≡ mic key (header ++ now (message .entry)) ⌝ }
+    ensures { result ≡ mic key (header ++ message.now) }
 {
     let tag = cmac::Cmac::new(key)
         .update(&header)
@@ -173,7 +171,7 @@ fn calculate_mic_with_header(key: [u8; 16], header: [u8; 16], message: &[u8]) ->
 
 // 4.4: the MIC of a data message, every byte of the frame ahead of the MIC. `counter` is the whole 32-bit counter.
 pub fn calculate_data_mic(key: [u8; 16], message: &[u8], counter: u32) -> [u8; 4]
-    ensures { λ r. ⌜ r ≡ dataMic key (now (message .entry)) counter ⌝ }
+    ensures { result ≡ dataMic key message.now counter }
 {
     let header = mic_block(message, counter);
     calculate_mic_with_header(key, header, message)
@@ -181,7 +179,7 @@ pub fn calculate_data_mic(key: [u8; 16], message: &[u8], counter: u32) -> [u8; 4
 
 // 6.2.4, 6.2.5: the MIC of a join message, every byte of the frame ahead of the MIC.
 pub fn calculate_mic(key: [u8; 16], message: &[u8]) -> [u8; 4]
-    ensures { λ r. ⌜ r ≡ joinMic key (now (message .entry)) ⌝ }
+    ensures { result ≡ joinMic key message.now }
 {
     let tag = cmac::tag(key, message);
     mic_of(tag)

@@ -1,12 +1,14 @@
 // What programs share that read frames from standard input: an input of any length, of which the start is kept, and records.
-ghost use Prim.Native.Nat.{_≤_};
-ghost use Rattle·io.specs.Counts.{Counts};
+ghost use Rattle.std.specs.Prelude.{◌≤◌};
+ghost use Rattle.io.specs.Counts.{IsPrefixLen};
+
 use libc::STDIN_FILENO;
 
 // Room for the start of an input that is a frame: one byte more than the longest one has.
 pub const START_ROOM: usize = 256;
 
 // How much of an input stands in the room for its start, and how long all of it is.
+#[derive(Drop)]
 pub struct Input {
     pub start: usize,
     pub count: usize,
@@ -28,7 +30,7 @@ fn whole_length(start: usize, room: &mut [u8]) -> usize {
 
 // Reads standard input to its end. Its start stands in `room`, if all of it is shorter than that.
 pub fn read_input(room: &mut [u8]) -> Input
-    ensures { λ r. ⌜ Counts (r .start) (now (room .exit)) ⌝ }
+    ensures { IsPrefixLen result.start room.new }
 {
     let start = io::read_full(STDIN_FILENO, room);
     let count = whole_length(start, room);
@@ -40,7 +42,7 @@ pub const RECORD_ROOM: usize = 512;
 
 // The length of a record, of the two bytes that stand ahead of it, low byte first.
 pub fn record_length(low: u8, high: u8) -> usize
-    ensures { λ r. ⌜ r ≤ 512 ⌝ }
+    ensures { result ≤ 512 }
 {
     let n = (low as usize) + (high as usize) * 256;
     if n < RECORD_ROOM { n } else { RECORD_ROOM }

@@ -1,160 +1,160 @@
 -- A command and its bytes: written it reads back, read it is written back where the reserved bits were 0, and both take the same
 -- bytes.
 -- Assumes nothing.
-use mathlib.Core.Path.{_≡_, refl, sym, ap, ap₂, _∙_, subst}
+use mathlib.Core.Path.{◌≡◌, refl, sym, ap, ap₂, ◌∙◌, subst}
 use mathlib.Core.Bool.{Bool, true, false}
-use mathlib.Core.List.{List, [], _∷_, _++_}
-use Prim.Native.Nat.{ℕ, zero, suc, _+_, _-_, _*_, _%_, _/_, _^_, _≤_, _<_}
+use mathlib.Core.List.{List, [], ◌∷◌, ◌++◌}
+use Prim.Native.Nat.{ℕ, zero, suc, ◌+◌, ◌-◌, ◌*◌, ◌%◌, ◌/◌, ◌^◌, ◌≤◌, ◌<◌}
 use native.Mathlib.Numerals.{add-one}
 use native.Mathlib.Omega.{arith}
-use lib.ListN.{length, getD, take, drop, length-append, length-drop}
-use lib.Seq.{getD-drop, drop-drop, drop-cons, take-at}
-use Rattle·base.specs.Bytes.{at, part, AreBytes}
-use Rattle·base.proofs.Cases.{by-order, by-bool}
-use Rattle·base.proofs.Parts.{length-part, bytes-part}
-use Rattle·base.proofs.Tab.{at-tab}
-use Rattle·frame.specs.declared.refusals.Refusal.{Refusal}
-use Rattle·frame.specs.Refusals.{refusal}
-use Rattle·mac_commands·specs.specs.Layout.{fits, fieldAt, fieldsOf, numberOf, countOf, Clear, row, rowOf, known, sizeOf, lowFirst, bytesOf}
-use Rattle·mac_commands·specs.specs.Commands.{commandOf, stepAt, rowAt, valuesOf, fitsAll, upOf, idOf, rowBytes, bytesAs}
-use Rattle·mac_commands·specs.specs.declared.maccommands.Command.{Command}
-use Rattle·mac_commands·specs.specs.declared.maccommands.Step.{Step}
-use Rattle·mac_commands·specs.specs.declared.maccommands.Step.the-variants.{Found, End, Refused}
-use Rattle·mac_commands·proofs.proofs.LayoutLaws.{named, named-below, number-back, number-below, low-bytes, bytes-low, bytes-long}
-use Rattle·mac_commands·proofs.proofs.TableLaws.{row-distinct, row-within, row-whole, row-below, count-most, fields-fit}
-use Rattle·mac_commands·proofs.proofs.CommandLaws.{shaped, row-back, values-read, fields-back, row-of, id-from, id-upto, id-of}
-use Rattle·mac_commands·proofs.proofs.StepLaws.{cut, whole, ended, unknown, known-from, known-upto, is-known}
-use Rattle·mac_commands·proofs.proofs.WriteLaws.{row-long}
+use lib.ListN.{length, get_or, take, drop, length-append, length-drop}
+use lib.Seq.{get_or-drop, drop-drop, drop-cons, take_at}
+use Rattle.base.specs.Bytes.{at, part, AreBytes}
+use Rattle.base.proofs.Cases.{by_order, by_bool}
+use Rattle.base.proofs.Parts.{length_part, bytes-part}
+use Rattle.base.proofs.Tab.{at-tab}
+use Rattle.frame.specs.declared.refusals.Refusal.{Refusal}
+use Rattle.frame.specs.Refusals.{refusal}
+use Rattle.mac_commands.specs.Layout.{fits, field_at, fields_of, number_of, countOf, Clear, row, row_of, known, size_of, low_first, bytes_of}
+use Rattle.mac_commands.specs.Commands.{commandOf, stepAt, row_at, valuesOf, fitsAll, upOf, id_of, rowBytes, bytesAs}
+use Rattle.mac_commands.specs.declared.maccommands.Command.{Command}
+use Rattle.mac_commands.specs.declared.maccommands.Step.{Step}
+use Rattle.mac_commands.specs.declared.maccommands.Step.TheVariants.{Found, End, Refused}
+use Rattle.mac_commands.proofs.LayoutLaws.{named, named-below, number-back, number-below, low-bytes, bytes_low, bytes-long}
+use Rattle.mac_commands.proofs.TableLaws.{row-distinct, row_within, row-whole, row_below, count_most, fields_fit}
+use Rattle.mac_commands.proofs.CommandLaws.{shaped, row_back, values-read, fields_back, row-of, id-from, id-upto, id-of}
+use Rattle.mac_commands.proofs.StepLaws.{cut, whole, ended, unknown, known_from, known-upto, is_known}
+use Rattle.mac_commands.proofs.WriteLaws.{row-long}
 
 -- ---- written, then read
 
 -- the number of a command is that of its bytes
 number-of-bytes : (c : Command) → fitsAll c ≡ true
-    → lowFirst (bytesOf (sizeOf (rowAt c)) (numberOf (row (rowAt c)) (valuesOf c))) ≡ numberOf (row (rowAt c)) (valuesOf c)
+    → low_first (bytes_of (size_of (row_at c)) (number_of (row (row_at c)) (valuesOf c))) ≡ number_of (row (row_at c)) (valuesOf c)
 number-of-bytes c h =
-    low-bytes (sizeOf (rowAt c)) (numberOf (row (rowAt c)) (valuesOf c))
-    (subst (λ (n : ℕ). numberOf (row (rowAt c)) (valuesOf c) < 2 ^ n) (row-whole (rowAt c) (shaped c .known))
-    (number-below (row (rowAt c)) (valuesOf c) h))
+    low-bytes (size_of (row_at c)) (number_of (row (row_at c)) (valuesOf c))
+    (subst (λ (n : ℕ). number_of (row (row_at c)) (valuesOf c) < 2 ^ n) (row-whole (row_at c) (shaped c).known)
+    (number-below (row (row_at c)) (valuesOf c) h))
 
 -- a command takes the identifier and the bytes of its row
-pub bytes-count : (c : Command) → length (bytesAs c) ≡ 1 + sizeOf (rowAt c)
+pub bytes_count : (c : Command) → length (bytesAs c) ≡ 1 + size_of (row_at c)
 unfolding bytesAs
-bytes-count c = row-long (rowAt c) (numberOf (row (rowAt c)) (valuesOf c))
+bytes_count c = row-long (row_at c) (number_of (row (row_at c)) (valuesOf c))
 
 pub reads-back : (c : Command) (s t : List ℕ) (i : ℕ) → fitsAll c ≡ true → drop i s ≡ bytesAs c ++ t
-    → stepAt (upOf (rowAt c)) s i ≡ Found c (i + length (bytesAs c))
+    → stepAt (upOf (row_at c)) s i ≡ Found c (i + length (bytesAs c))
 unfolding bytesAs rowBytes
 reads-back c s t i h e =
-    let v : ℕ = numberOf (row (rowAt c)) (valuesOf c) in
+    let v : ℕ = number_of (row (row_at c)) (valuesOf c) in
     let long : length s - i ≡ length (bytesAs c) + length t =
     sym (length-drop i s) ∙ ap length e ∙ length-append (bytesAs c) t in
-    let first : at s i ≡ idOf (rowAt c) =
-    ap (at s) (omega arith) ∙ sym (getD-drop i s 0 0) ∙ ap (λ (l : List ℕ). getD l 0 0) e in
-    let rest : part (i + 1) (sizeOf (rowAt c)) s ≡ bytesOf (sizeOf (rowAt c)) v =
-    ap (take (sizeOf (rowAt c))) (sym (drop-drop 1 i s) ∙ ap (drop 1) e)
-    ∙ take-at (bytesOf (sizeOf (rowAt c)) v) t (sizeOf (rowAt c)) (bytes-long (sizeOf (rowAt c)) v) in
-    let its : rowOf (upOf (rowAt c)) (at s i) ≡ rowAt c =
-    ap (rowOf (upOf (rowAt c))) first ∙ row-of (rowAt c) (shaped c .known) in
-    let same : fieldsOf (row (rowAt c)) (lowFirst (part (i + 1) (sizeOf (rowAt c)) s)) ≡ valuesOf c =
-    ap (λ (l : List ℕ). fieldsOf (row (rowAt c)) (lowFirst l)) rest
-    ∙ ap (fieldsOf (row (rowAt c))) (number-of-bytes c h)
-    ∙ fields-back c h in
-    let next : i + 1 + sizeOf (rowAt c) ≡ i + length (bytesAs c) = omega (arith, bytes-count c) in
-    whole (upOf (rowAt c)) s i (omega (arith, bytes-count c))
-    (is-known (at s i) (omega (arith, id-from (rowAt c))) (omega (arith, id-upto (rowAt c))))
-    (omega (arith, bytes-count c, ap sizeOf its))
+    let first : at s i ≡ id_of (row_at c) =
+    ap (at s) (omega arith) ∙ sym (get_or-drop i s 0 0) ∙ ap (λ (l : List ℕ). get_or l 0 0) e in
+    let rest : part (i + 1) (size_of (row_at c)) s ≡ bytes_of (size_of (row_at c)) v =
+    ap (take (size_of (row_at c))) (sym (drop-drop 1 i s) ∙ ap (drop 1) e)
+    ∙ take_at (bytes_of (size_of (row_at c)) v) t (size_of (row_at c)) (bytes-long (size_of (row_at c)) v) in
+    let its : row_of (upOf (row_at c)) (at s i) ≡ row_at c =
+    ap (row_of (upOf (row_at c))) first ∙ row-of (row_at c) (shaped c).known in
+    let same : fields_of (row (row_at c)) (low_first (part (i + 1) (size_of (row_at c)) s)) ≡ valuesOf c =
+    ap (λ (l : List ℕ). fields_of (row (row_at c)) (low_first l)) rest
+    ∙ ap (fields_of (row (row_at c))) (number-of-bytes c h)
+    ∙ fields_back c h in
+    let next : i + 1 + size_of (row_at c) ≡ i + length (bytesAs c) = omega (arith, bytes_count c) in
+    whole (upOf (row_at c)) s i (omega (arith, bytes_count c))
+    (is_known (at s i) (omega (arith, id-from (row_at c))) (omega (arith, id-upto (row_at c))))
+    (omega (arith, bytes_count c, ap size_of its))
     ∙ ap
-    (λ (r : ℕ). Found (commandOf r (fieldsOf (row r) (lowFirst (part (i + 1) (sizeOf r) s)))) (i + 1 + sizeOf r))
+    (λ (r : ℕ). Found (commandOf r (fields_of (row r) (low_first (part (i + 1) (size_of r) s)))) (i + 1 + size_of r))
     its
-    ∙ ap₂ Found (ap (commandOf (rowAt c)) same ∙ shaped c .back h) next
+    ∙ ap₂ Found (ap (commandOf (row_at c)) same ∙ (shaped c).back h) next
 
 -- ---- read, then written
 
 -- the number that stands behind the identifier at place i
 abbrev pub numberBehind : Bool → List ℕ → ℕ → ℕ
-numberBehind up s i = lowFirst (part (i + 1) (sizeOf (rowOf up (at s i))) s)
+numberBehind up s i = low_first (part (i + 1) (size_of (row_of up (at s i))) s)
 
 -- what was read: the command c, and the place n of the next
 pub record ReadAs (up : Bool) (s : List ℕ) (i : ℕ) (c : Command) (n : ℕ) : Type 0 where
   pub in-family : known (at s i) ≡ true
-  pub room : i + 1 + sizeOf (rowOf up (at s i)) ≤ length s
-  pub command : c ≡ commandOf (rowOf up (at s i)) (fieldsOf (row (rowOf up (at s i))) (numberBehind up s i))
-  pub next : n ≡ i + 1 + sizeOf (rowOf up (at s i))
+  pub room : i + 1 + size_of (row_of up (at s i)) ≤ length s
+  pub command : c ≡ commandOf (row_of up (at s i)) (fields_of (row (row_of up (at s i))) (numberBehind up s i))
+  pub next : n ≡ i + 1 + size_of (row_of up (at s i))
 
-no-end : {A : Type 0} (x : Step) (c : Command) (n : ℕ) → x ≡ Found c n → x ≡ End → A
-no-end x c n e f = let z : _≡_ {A = ℕ} 0 1 = cc in let no : ⊥ = omega arith in absurd no
+no_end : {A : Type 0} (x : Step) (c : Command) (n : ℕ) → x ≡ Found c n → x ≡ End → A
+no_end x c n e f = let z : ◌≡◌ {A = ℕ} 0 1 = cc in let no : ⊥ = omega arith in absurd no
 
 no-refusal : {A : Type 0} (x : Step) (c : Command) (n : ℕ) (r : Refusal) → x ≡ Found c n → x ≡ Refused r → A
-no-refusal x c n r e f = let z : _≡_ {A = ℕ} 0 1 = cc in let no : ⊥ = omega arith in absurd no
+no-refusal x c n r e f = let z : ◌≡◌ {A = ℕ} 0 1 = cc in let no : ⊥ = omega arith in absurd no
 
-pub read-as : (up : Bool) (s : List ℕ) (i : ℕ) (c : Command) (n : ℕ) → stepAt up s i ≡ Found c n → ReadAs up s i c n
-read-as up s i c n e =
-    by-order (length s) i (λ h. no-end (stepAt up s i) c n e (ended up s i h))
+pub read_as : (up : Bool) (s : List ℕ) (i : ℕ) (c : Command) (n : ℕ) → stepAt up s i ≡ Found c n → ReadAs up s i c n
+read_as up s i c n e =
+    by_order (length s) i (λ h. no_end (stepAt up s i) c n e (ended up s i h))
     (λ h.
-    by-bool (known (at s i))
+    by_bool (known (at s i))
     (λ k.
-    by-order (i + 1 + sizeOf (rowOf up (at s i))) (length s)
+    by_order (i + 1 + size_of (row_of up (at s i))) (length s)
     (λ m. facts k m (whole up s i h k m))
     (λ m. no-refusal (stepAt up s i) c n (refusal 17 i) e (cut up s i h k m)))
     (λ k. no-refusal (stepAt up s i) c n (refusal 16 i) e (unknown up s i h k)))
   where
-    facts : known (at s i) ≡ true → i + 1 + sizeOf (rowOf up (at s i)) ≤ length s
+    facts : known (at s i) ≡ true → i + 1 + size_of (row_of up (at s i)) ≤ length s
         → stepAt up s i
-        ≡ Found (commandOf (rowOf up (at s i)) (fieldsOf (row (rowOf up (at s i))) (numberBehind up s i)))
-        (i + 1 + sizeOf (rowOf up (at s i)))
+        ≡ Found (commandOf (row_of up (at s i)) (fields_of (row (row_of up (at s i))) (numberBehind up s i)))
+        (i + 1 + size_of (row_of up (at s i)))
         → ReadAs up s i c n
     facts k m f = record { in-family = k; room = m; command = cc; next = cc }
 
 module _ {up : Bool} {s : List ℕ} {i : ℕ} {c : Command} {n : ℕ} (a : ReadAs up s i c n) where
-  below : rowOf up (at s i) < 18
-  below = row-below up (at s i) (known-upto (at s i) (a .in-family))
+  below : row_of up (at s i) < 18
+  below = row_below up (at s i) (known-upto (at s i) a.in-family)
 
-  pub read-row : rowAt c ≡ rowOf up (at s i)
-  read-row = ap rowAt (a .command) ∙ row-back (rowOf up (at s i)) _ below
+  pub read-row : row_at c ≡ row_of up (at s i)
+  read-row = ap row_at a.command ∙ row_back (row_of up (at s i)) _ below
 
   -- its values are the fields of the number
-  read-values : valuesOf c ≡ fieldsOf (row (rowOf up (at s i))) (numberBehind up s i)
-  read-values = ap valuesOf (a .command) ∙ values-read (rowOf up (at s i)) (numberBehind up s i) below
+  read-values : valuesOf c ≡ fields_of (row (row_of up (at s i))) (numberBehind up s i)
+  read-values = ap valuesOf a.command ∙ values-read (row_of up (at s i)) (numberBehind up s i) below
 
   -- one statement on lengths, for each direction and identifier: reading skips what writing writes
-  pub same-length : n ≡ i + length (bytesAs c)
-  same-length = a .next ∙ omega (arith, bytes-count c, ap sizeOf read-row)
+  pub same_length : n ≡ i + length (bytesAs c)
+  same_length = a.next ∙ omega (arith, bytes_count c, ap size_of read-row)
 
   -- what was read can be written
-  pub read-fits : fitsAll c ≡ true
-  read-fits =
+  pub read_fits : fitsAll c ≡ true
+  read_fits =
       ap₂ (λ (r : ℕ) (x : List ℕ). fits (row r) x) read-row read-values
-      ∙ fields-fit (rowOf up (at s i)) (numberBehind up s i) below
+      ∙ fields_fit (row_of up (at s i)) (numberBehind up s i) below
 
   -- where the reserved bits were 0, what is written is what was read
-  pub writes-back : AreBytes s → Clear (row (rowOf up (at s i))) (numberBehind up s i)
-      → bytesAs c ≡ part i (1 + sizeOf (rowOf up (at s i))) s
+  pub writes-back : AreBytes s → Clear (row (row_of up (at s i))) (numberBehind up s i)
+      → bytesAs c ≡ part i (1 + size_of (row_of up (at s i))) s
   unfolding bytesAs rowBytes
   writes-back b z =
-      let long : length (part (i + 1) (sizeOf (rowOf up (at s i))) s) ≡ sizeOf (rowOf up (at s i)) =
-      length-part (i + 1) (sizeOf (rowOf up (at s i))) s (a .room) in
-      ap (λ (r : ℕ). rowBytes r (numberOf (row r) (valuesOf c))) read-row
-      ∙ ap (rowBytes (rowOf up (at s i)))
-      (number-back (row (rowOf up (at s i))) (numberBehind up s i) (valuesOf c) (row-distinct (rowOf up (at s i)) below)
-      (λ k t. ap (λ (x : List ℕ). at x k) read-values ∙ at-tab 5 (fieldAt (row (rowOf up (at s i))) (numberBehind up s i)) k (few k t)) z)
+      let long : length (part (i + 1) (size_of (row_of up (at s i))) s) ≡ size_of (row_of up (at s i)) =
+      length_part (i + 1) (size_of (row_of up (at s i))) s a.room in
+      ap (λ (r : ℕ). rowBytes r (number_of (row r) (valuesOf c))) read-row
+      ∙ ap (rowBytes (row_of up (at s i)))
+      (number-back (row (row_of up (at s i))) (numberBehind up s i) (valuesOf c) (row-distinct (row_of up (at s i)) below)
+      (λ k t. ap (λ (x : List ℕ). at x k) read-values ∙ at-tab 5 (field_at (row (row_of up (at s i))) (numberBehind up s i)) k (few k t)) z)
       ∙ ap₂ (λ (x : ℕ) (l : List ℕ). x ∷ l)
-      (id-of up (at s i) (known-from (at s i) (a .in-family)) (known-upto (at s i) (a .in-family)))
-      (ap (λ (k : ℕ). bytesOf k (numberBehind up s i)) (sym long)
-      ∙ bytes-low (part (i + 1) (sizeOf (rowOf up (at s i))) s) (bytes-part (i + 1) (sizeOf (rowOf up (at s i))) s b))
-      ∙ sym (front (omega (arith, a .room)))
+      (id-of up (at s i) (known_from (at s i) a.in-family) (known-upto (at s i) a.in-family))
+      (ap (λ (k : ℕ). bytes_of k (numberBehind up s i)) (sym long)
+      ∙ bytes_low (part (i + 1) (size_of (row_of up (at s i))) s) (bytes-part (i + 1) (size_of (row_of up (at s i))) s b))
+      ∙ sym (front (omega (arith, a.room)))
     where
-      few : (k : ℕ) → named (row (rowOf up (at s i))) k ≡ true → k < 5
+      few : (k : ℕ) → named (row (row_of up (at s i))) k ≡ true → k < 5
       few k t =
           omega (
             arith,
-            named-below (row (rowOf up (at s i))) (countOf (row (rowOf up (at s i)))) k (row-within (rowOf up (at s i)) below) t,
-            count-most (rowOf up (at s i)) below,
+            named-below (row (row_of up (at s i))) (countOf (row (row_of up (at s i)))) k (row_within (row_of up (at s i)) below) t,
+            count_most (row_of up (at s i)) below,
           )
 
       front : i < length s
-          → part i (1 + sizeOf (rowOf up (at s i))) s ≡ at s i ∷ part (i + 1) (sizeOf (rowOf up (at s i))) s
+          → part i (1 + size_of (row_of up (at s i))) s ≡ at s i ∷ part (i + 1) (size_of (row_of up (at s i))) s
       front h =
-          let e : 1 + sizeOf (rowOf up (at s i)) ≡ suc (sizeOf (rowOf up (at s i))) = omega arith in
+          let e : 1 + size_of (row_of up (at s i)) ≡ suc (size_of (row_of up (at s i))) = omega arith in
           ap (λ (k : ℕ). take k (drop i s)) e
-          ∙ ap (take (suc (sizeOf (rowOf up (at s i))))) (drop-cons s i 0 h)
-          ∙ ap (λ (k : ℕ). at s i ∷ part k (sizeOf (rowOf up (at s i))) s) (sym (add-one i))
+          ∙ ap (take (suc (size_of (row_of up (at s i))))) (drop-cons s i 0 h)
+          ∙ ap (λ (k : ℕ). at s i ∷ part k (size_of (row_of up (at s i))) s) (sym (add-one i))

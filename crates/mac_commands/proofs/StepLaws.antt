@@ -1,58 +1,58 @@
 -- One step of reading, by the facts on which it turns.
 -- Assumes nothing.
-use mathlib.Core.Path.{_≡_, sym, ap, _∙_, subst}
+use mathlib.Core.Path.{◌≡◌, sym, ap, ◌∙◌, subst}
 use mathlib.Core.Bool.{Bool, true, false}
 use mathlib.Core.List.{List}
-use Prim.Native.Nat.{ℕ, _+_, _≤_, _<_}
+use Prim.Native.Nat.{ℕ, ◌+◌, ◌≤◌, ◌<◌}
 use native.Mathlib.Omega.{arith}
 use lib.Dec.{ltb, leb}
 use lib.ListN.{length}
 use borrow.Author.Tests.{lt-ltb, le-ltb, le-leb, lt-leb, leb-true}
-use Rattle·base.specs.Bytes.{pick, at, part}
-use Rattle·base.proofs.Cases.{by-bool, by-order}
-use Rattle·frame.specs.declared.refusals.Refusal.{Refusal}
-use Rattle·frame.specs.Refusals.{refusal}
-use Rattle·mac_commands·specs.specs.Layout.{fieldsOf, row, rowOf, known, sizeOf, lowFirst}
-use Rattle·mac_commands·specs.specs.Commands.{commandOf, rawAt, rawStepAt, stepOf, stepAt}
-use Rattle·mac_commands·specs.specs.declared.maccommands.Step.{Step}
-use Rattle·mac_commands·specs.specs.declared.maccommands.Step.the-variants.{Found, End, Refused}
-use Rattle·mac_commands·specs.specs.declared.maccommands.RawStep.{RawStep}
-use Rattle·mac_commands·specs.specs.declared.maccommands.RawStep.the-variants.{Found as RawFound, End as RawEnd, Refused as RawRefused}
-use Rattle·mac_commands·proofs.proofs.LayoutLaws.{both-1, both-2}
-use Rattle·mac_commands·proofs.proofs.TableLaws.{row-below}
+use Rattle.base.specs.Bytes.{pick, at, part}
+use Rattle.base.proofs.Cases.{by_bool, by_order}
+use Rattle.frame.specs.declared.refusals.Refusal.{Refusal}
+use Rattle.frame.specs.Refusals.{refusal}
+use Rattle.mac_commands.specs.Layout.{fields_of, row, row_of, known, size_of, low_first}
+use Rattle.mac_commands.specs.Commands.{commandOf, rawAt, rawStepAt, step_of, stepAt}
+use Rattle.mac_commands.specs.declared.maccommands.Step.{Step}
+use Rattle.mac_commands.specs.declared.maccommands.Step.TheVariants.{Found, End, Refused}
+use Rattle.mac_commands.specs.declared.maccommands.RawStep.{RawStep}
+use Rattle.mac_commands.specs.declared.maccommands.RawStep.TheVariants.{Found as RawFound, End as RawEnd, Refused as RawRefused}
+use Rattle.mac_commands.proofs.LayoutLaws.{both-1, both-2}
+use Rattle.mac_commands.proofs.TableLaws.{row_below}
 
 -- ---- an identifier of the family
 
-pub known-from : (id : ℕ) → known id ≡ true → 2 ≤ id
-known-from id h = leb-true 2 id (both-1 (leb 2 id) (leb id 10) h)
+pub known_from : (id : ℕ) → known id ≡ true → 2 ≤ id
+known_from id h = leb-true 2 id (both-1 (leb 2 id) (leb id 10) h)
 
 pub known-upto : (id : ℕ) → known id ≡ true → id ≤ 10
 known-upto id h = leb-true id 10 (both-2 (leb 2 id) (leb id 10) h)
 
-pub is-known : (id : ℕ) → 2 ≤ id → id ≤ 10 → known id ≡ true
-is-known id g l = simp (le-leb 2 id g, le-leb id 10 l)
+pub is_known : (id : ℕ) → 2 ≤ id → id ≤ 10 → known id ≡ true
+is_known id g l = simp (le-leb 2 id g, le-leb id 10 l)
 
 -- ---- a step
 
-abbrev rowIn : RawStep → ℕ
-rowIn (RawFound r v n) = r
-rowIn RawEnd = 0
-rowIn (RawRefused e) = 0
+abbrev row_in : RawStep → ℕ
+row_in (RawFound r v n) = r
+row_in RawEnd = 0
+row_in (RawRefused e) = 0
 
 unfound : {A : Type 0} {x : RawStep} {e : Refusal} {r v n : ℕ} → x ≡ RawRefused e → x ≡ RawFound r v n → A
-unfound p q = let z : _≡_ {A = ℕ} 0 1 = cc in let no : ⊥ = omega arith in absurd no
+unfound p q = let z : ◌≡◌ {A = ℕ} 0 1 = cc in let no : ⊥ = omega arith in absurd no
 
 unended : {A : Type 0} {x : RawStep} {r v n : ℕ} → x ≡ RawEnd → x ≡ RawFound r v n → A
-unended p q = let z : _≡_ {A = ℕ} 0 1 = cc in let no : ⊥ = omega arith in absurd no
+unended p q = let z : ◌≡◌ {A = ℕ} 0 1 = cc in let no : ⊥ = omega arith in absurd no
 
-pub raw-cut : (r : ℕ) (s : List ℕ) (i : ℕ) → length s < i + 1 + sizeOf r → rawAt r s i ≡ RawRefused (refusal 17 i)
+pub raw-cut : (r : ℕ) (s : List ℕ) (i : ℕ) → length s < i + 1 + size_of r → rawAt r s i ≡ RawRefused (refusal 17 i)
 unfolding rawAt
-raw-cut r s i h = simp (lt-leb (i + 1 + sizeOf r) (length s) h)
+raw-cut r s i h = simp (lt-leb (i + 1 + size_of r) (length s) h)
 
-pub raw-whole : (r : ℕ) (s : List ℕ) (i : ℕ) → i + 1 + sizeOf r ≤ length s
-    → rawAt r s i ≡ RawFound r (lowFirst (part (i + 1) (sizeOf r) s)) (i + 1 + sizeOf r)
+pub raw-whole : (r : ℕ) (s : List ℕ) (i : ℕ) → i + 1 + size_of r ≤ length s
+    → rawAt r s i ≡ RawFound r (low_first (part (i + 1) (size_of r) s)) (i + 1 + size_of r)
 unfolding rawAt
-raw-whole r s i h = simp (le-leb (i + 1 + sizeOf r) (length s) h)
+raw-whole r s i h = simp (le-leb (i + 1 + size_of r) (length s) h)
 
 pub raw-ended : (up : Bool) (s : List ℕ) (i : ℕ) → length s ≤ i → rawStepAt up s i ≡ RawEnd
 unfolding rawStepAt
@@ -64,46 +64,46 @@ unfolding rawStepAt
 raw-unknown up s i h k = simp (lt-ltb i (length s) h, k)
 
 pub raw-known : (up : Bool) (s : List ℕ) (i : ℕ) → i < length s → known (at s i) ≡ true
-    → rawStepAt up s i ≡ rawAt (rowOf up (at s i)) s i
+    → rawStepAt up s i ≡ rawAt (row_of up (at s i)) s i
 unfolding rawStepAt
 raw-known up s i h k = simp (lt-ltb i (length s) h, k)
 
 -- a row that was found is one of the eighteen
 raw-row-in : (up : Bool) (s : List ℕ) (i : ℕ) {r v n : ℕ} → i < length s → known (at s i) ≡ true
-    → rawAt (rowOf up (at s i)) s i ≡ RawFound r v n → r < 18
+    → rawAt (row_of up (at s i)) s i ≡ RawFound r v n → r < 18
 raw-row-in up s i {r} h k e =
-    by-order (i + 1 + sizeOf (rowOf up (at s i))) (length s)
+    by_order (i + 1 + size_of (row_of up (at s i))) (length s)
     (λ l.
-    let its : rowOf up (at s i) ≡ r = ap rowIn (sym (raw-whole (rowOf up (at s i)) s i l) ∙ e) in
-    subst (λ (m : ℕ). m < 18) its (row-below up (at s i) (known-upto (at s i) k)))
-    (λ l. unfound (raw-cut (rowOf up (at s i)) s i l) e)
+    let its : row_of up (at s i) ≡ r = ap row_in (sym (raw-whole (row_of up (at s i)) s i l) ∙ e) in
+    subst (λ (m : ℕ). m < 18) its (row_below up (at s i) (known-upto (at s i) k)))
+    (λ l. unfound (raw-cut (row_of up (at s i)) s i l) e)
 
-pub raw-row : (up : Bool) (s : List ℕ) (i : ℕ) {r v n : ℕ} → rawStepAt up s i ≡ RawFound r v n → r < 18
-raw-row up s i e =
-    by-order (length s) i (λ h. unended (raw-ended up s i h) e)
+pub raw_row : (up : Bool) (s : List ℕ) (i : ℕ) {r v n : ℕ} → rawStepAt up s i ≡ RawFound r v n → r < 18
+raw_row up s i e =
+    by_order (length s) i (λ h. unended (raw-ended up s i h) e)
     (λ h.
-    by-bool (known (at s i)) (λ k. raw-row-in up s i h k (sym (raw-known up s i h k) ∙ e))
+    by_bool (known (at s i)) (λ k. raw-row-in up s i h k (sym (raw-known up s i h k) ∙ e))
     (λ k. unfound (raw-unknown up s i h k) e))
 
 -- ---- the same of the command
 
 pub ended : (up : Bool) (s : List ℕ) (i : ℕ) → length s ≤ i → stepAt up s i ≡ End
 unfolding stepAt
-ended up s i h = ap stepOf (raw-ended up s i h)
+ended up s i h = ap step_of (raw-ended up s i h)
 
 pub unknown : (up : Bool) (s : List ℕ) (i : ℕ) → i < length s → known (at s i) ≡ false → stepAt up s i ≡ Refused (refusal 16 i)
 unfolding stepAt
-unknown up s i h k = ap stepOf (raw-unknown up s i h k)
+unknown up s i h k = ap step_of (raw-unknown up s i h k)
 
 pub cut : (up : Bool) (s : List ℕ) (i : ℕ) → i < length s → known (at s i) ≡ true
-    → length s < i + 1 + sizeOf (rowOf up (at s i)) → stepAt up s i ≡ Refused (refusal 17 i)
+    → length s < i + 1 + size_of (row_of up (at s i)) → stepAt up s i ≡ Refused (refusal 17 i)
 unfolding stepAt
-cut up s i h k l = ap stepOf (raw-known up s i h k ∙ raw-cut (rowOf up (at s i)) s i l)
+cut up s i h k l = ap step_of (raw-known up s i h k ∙ raw-cut (row_of up (at s i)) s i l)
 
 pub whole : (up : Bool) (s : List ℕ) (i : ℕ) → i < length s → known (at s i) ≡ true
-    → i + 1 + sizeOf (rowOf up (at s i)) ≤ length s
+    → i + 1 + size_of (row_of up (at s i)) ≤ length s
     → stepAt up s i
-    ≡ Found (commandOf (rowOf up (at s i)) (fieldsOf (row (rowOf up (at s i))) (lowFirst (part (i + 1) (sizeOf (rowOf up (at s i))) s))))
-    (i + 1 + sizeOf (rowOf up (at s i)))
+    ≡ Found (commandOf (row_of up (at s i)) (fields_of (row (row_of up (at s i))) (low_first (part (i + 1) (size_of (row_of up (at s i))) s))))
+    (i + 1 + size_of (row_of up (at s i)))
 unfolding stepAt
-whole up s i h k l = ap stepOf (raw-known up s i h k ∙ raw-whole (rowOf up (at s i)) s i l)
+whole up s i h k l = ap step_of (raw-known up s i h k ∙ raw-whole (row_of up (at s i)) s i l)

@@ -1,14 +1,9 @@
 -- The layouts of the MAC commands (LoRaWAN 1.0.2, section 5), each once: the bits behind the identifier, which are read as one
 -- number, low byte first. What a layout says of reading and of writing.
 -- Assumes nothing.
-use mathlib.Core.Path.{_≡_}
-use mathlib.Core.Bool.{Bool, true, false}
-use mathlib.Core.List.{List, [], _∷_, _++_}
-use Prim.Native.Nat.{ℕ, zero, suc, _+_, _-_, _*_, _/_, _%_, _^_}
-use lib.Dec.{ltb, leb, eqb}
-use lib.ListN.{getD}
-use Rattle·base.specs.Bytes.{pick, at, tab}
-use Rattle·base.proofs.Tested.{both}
+use Rattle.std.specs.Prelude.{◌≡◌, Bool, true, false, List, [], ◌∷◌, ◌++◌, ℕ, zero, suc, ◌+◌, ◌-◌, ◌*◌, ◌/◌, ◌%◌, ◌^◌, ltb, leb, eqb, get_or}
+use Rattle.base.specs.Bytes.{pick, at, tab}
+use Rattle.base.proofs.Tested.{both}
 
 -- ---- a layout
 
@@ -19,10 +14,10 @@ pub data Piece : Type 0 where
   spare : ℕ → Piece
 
 -- all bits of a layout, which lists its pieces from bit 0 up
-unfoldable pub bitsOf : List Piece → ℕ
-bitsOf [] = 0
-bitsOf (field k w ∷ ps) = w + bitsOf ps
-bitsOf (spare w ∷ ps) = w + bitsOf ps
+unfoldable pub bits_of : List Piece → ℕ
+bits_of [] = 0
+bits_of (field k w ∷ ps) = w + bits_of ps
+bits_of (spare w ∷ ps) = w + bits_of ps
 
 -- how many fields it has
 unfoldable pub countOf : List Piece → ℕ
@@ -36,25 +31,25 @@ placeAt [] k = 0
 placeAt (field j w ∷ ps) k = pick (eqb j k) 0 (w + placeAt ps k)
 placeAt (spare w ∷ ps) k = w + placeAt ps k
 
-unfoldable pub widthAt : List Piece → ℕ → ℕ
-widthAt [] k = 0
-widthAt (field j w ∷ ps) k = pick (eqb j k) w (widthAt ps k)
-widthAt (spare w ∷ ps) k = widthAt ps k
+unfoldable pub width_at : List Piece → ℕ → ℕ
+width_at [] k = 0
+width_at (field j w ∷ ps) k = pick (eqb j k) w (width_at ps k)
+width_at (spare w ∷ ps) k = width_at ps k
 
 -- ---- reading: the fields of the number v. A command has at most five; those that it lacks are 0.
 
-abbrev pub fieldAt : List Piece → ℕ → ℕ → ℕ
-fieldAt ps v k = v / 2 ^ placeAt ps k % 2 ^ widthAt ps k
+abbrev pub field_at : List Piece → ℕ → ℕ → ℕ
+field_at ps v k = v / 2 ^ placeAt ps k % 2 ^ width_at ps k
 
-abbrev pub fieldsOf : List Piece → ℕ → List ℕ
-fieldsOf ps v = tab 5 (fieldAt ps v)
+abbrev pub fields_of : List Piece → ℕ → List ℕ
+fields_of ps v = tab 5 (field_at ps v)
 
 -- ---- writing: the number that has the field k equal to the k-th of these values, and reserved bits 0
 
-unfoldable pub numberOf : List Piece → List ℕ → ℕ
-numberOf [] xs = 0
-numberOf (field k w ∷ ps) xs = at xs k + 2 ^ w * numberOf ps xs
-numberOf (spare w ∷ ps) xs = 2 ^ w * numberOf ps xs
+unfoldable pub number_of : List Piece → List ℕ → ℕ
+number_of [] xs = 0
+number_of (field k w ∷ ps) xs = at xs k + 2 ^ w * number_of ps xs
+number_of (spare w ∷ ps) xs = 2 ^ w * number_of ps xs
 
 -- each field can hold its value; values of fields that are not there are not looked at
 unfoldable pub fits : List Piece → List ℕ → Bool
@@ -71,14 +66,14 @@ Clear (spare w ∷ ps) v = (v % 2 ^ w ≡ 0) × Clear ps (v / 2 ^ w)
 -- ---- numbers and bytes
 
 -- the number that bytes are, low byte first
-unfoldable pub lowFirst : List ℕ → ℕ
-lowFirst [] = 0
-lowFirst (b ∷ s) = b + 256 * lowFirst s
+unfoldable pub low_first : List ℕ → ℕ
+low_first [] = 0
+low_first (b ∷ s) = b + 256 * low_first s
 
 -- the n low bytes of a number
-unfoldable pub bytesOf : ℕ → ℕ → List ℕ
-bytesOf zero v = []
-bytesOf (suc n) v = (v % 256) ∷ bytesOf n (v / 256)
+unfoldable pub bytes_of : ℕ → ℕ → List ℕ
+bytes_of zero v = []
+bytes_of (suc n) v = (v % 256) ∷ bytes_of n (v / 256)
 
 -- ---- the table: identifiers 02 to 0A, down
 
@@ -130,16 +125,16 @@ ups =
 
 -- the eighteen rows: down, then up
 unfoldable pub row : ℕ → List Piece
-row r = getD (downs ++ ups) r []
+row r = get_or (downs ++ ups) r []
 
 -- the row of an identifier, by the direction
-abbrev pub rowOf : Bool → ℕ → ℕ
-rowOf up id = pick up 9 0 + (id - 2)
+abbrev pub row_of : Bool → ℕ → ℕ
+row_of up id = pick up 9 0 + (id - 2)
 
 -- an identifier of the family
 abbrev pub known : ℕ → Bool
 known id = both (leb 2 id) (leb id 10)
 
 -- the bytes behind the identifier
-unfoldable pub sizeOf : ℕ → ℕ
-sizeOf r = bitsOf (row r) / 8
+unfoldable pub size_of : ℕ → ℕ
+size_of r = bits_of (row r) / 8

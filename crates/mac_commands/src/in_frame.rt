@@ -1,17 +1,16 @@
 // Where the commands of a data frame lie.
-ghost use mathlib.Core.Path.{_≡_};
-ghost use Rattle·mac_commands·specs.specs.InFrame.{listsBetween, listsOf, inFrame};
+ghost use Rattle.std.specs.Prelude.{◌≡◌};
+ghost use Rattle.mac_commands.specs.InFrame.{listsBetween, lists_of, inFrame};
+
 use frame::numbers::other_refusal;
-use frame::parser::DataFrame;
-use frame::parser::FrmPayload;
-use frame::parser::Reading;
-use frame::parser::read;
+use frame::parser::{DataFrame, FrmPayload, Reading, read};
 use frame::refusals::Refusal;
 use frame_bits::fctrl::is_uplink;
 
 // The direction of a frame's commands, and the ends of its two lists: `read_step` on the bytes up to fopts_end gives those of
 // FOpts, from place 8 on; on the bytes up to payload_end, of a clear payload, those on port 0, from payload_start on. A frame
 // with a list on port 0, which may be empty, has on_port_0.
+#[derive(Drop)]
 pub struct CommandLists {
     pub uplink: bool,
     pub fopts_end: usize,
@@ -20,6 +19,7 @@ pub struct CommandLists {
     pub payload_end: usize,
 }
 
+#[derive(Drop)]
 pub enum InFrame {
     Lists(CommandLists),
     Refused(Refusal),
@@ -27,7 +27,7 @@ pub enum InFrame {
 
 // The lists of a frame, the one on port 0 between these places.
 fn lists_between(d: DataFrame, on_port_0: bool, start: usize, end: usize) -> CommandLists
-    ensures { λ r. ⌜ r ≡ listsBetween d «on_port_0» start end ⌝ }
+    ensures { result ≡ listsBetween d on_port_0 start end }
 {
     CommandLists {
         uplink: is_uplink(d.mtype),
@@ -39,7 +39,7 @@ fn lists_between(d: DataFrame, on_port_0: bool, start: usize, end: usize) -> Com
 }
 
 fn lists_of(d: DataFrame) -> CommandLists
-    ensures { λ r. ⌜ r ≡ listsOf d ⌝ }
+    ensures { result ≡ lists_of d }
 {
     let payload = d.payload;
     let mic = d.mic;
@@ -52,7 +52,7 @@ fn lists_of(d: DataFrame) -> CommandLists
 
 // The lists of commands of a data frame. A frame of another type is refused by 4.
 pub fn command_lists(frame: &[u8]) -> InFrame
-    ensures { λ r. ⌜ r ≡ inFrame (now (frame .entry)) ⌝ }
+    ensures { result ≡ inFrame frame.now }
 {
     let reading = read(frame);
     let Reading::Data(d) = reading else {

@@ -1,41 +1,32 @@
 // Writing commands (maccommandcreator.rs of the crate).
-ghost use mathlib.Core.Path.{_≡_};
-ghost use Prim.Native.Nat.{_+_, _*_, _^_, _≤_, _<_};
-ghost use lib.Dec.{leb};
-ghost use lib.ListN.{length};
-ghost use Rattle·base.specs.Storing.{Put};
-ghost use Rattle·frame.specs.Refusals.{refused};
-ghost use Rattle·mac_commands·specs.specs.Layout.{row, placeAt, widthAt, bytesOf};
-ghost use Rattle·mac_commands·specs.specs.Commands.{rawOf, fieldsAs, packedOf, putAs, putIn, writtenAs, writtenIn, commandWritten, commandIn, fieldsWritten, fieldsIn};
-ghost use Rattle·mac_commands·specs.specs.declared.maccommandcreator.Written.the-variants.{Refused as Unwritten};
+ghost use Rattle.std.specs.Prelude.{◌≡◌, ◌+◌, ◌*◌, ◌^◌, ◌≤◌, ◌<◌, leb, length};
+ghost use Rattle.base.specs.Storing.{Put};
+ghost use Rattle.frame.specs.Refusals.{refused};
+ghost use Rattle.mac_commands.specs.Layout.{row, placeAt, width_at, bytes_of};
+ghost use Rattle.mac_commands.specs.Commands.{rawOf, fieldsAs, packedOf, putAs, put_in, writtenAs, writtenIn, commandWritten, commandIn, fieldsWritten, fieldsIn};
+ghost use Rattle.mac_commands.specs.declared.maccommandcreator.Written.TheVariants.{Refused as Unwritten};
+
 use crate::maccommands::Command;
-use crate::table::FIELDS_MAX;
-use crate::table::count_of;
-use crate::table::is_known;
-use crate::table::place_at;
-use crate::table::power;
-use crate::table::row_of;
-use crate::table::size_of;
-use crate::table::width_at;
-use frame::refusals::BUFFER_TOO_SHORT;
-use frame::refusals::Refusal;
-use frame::refusals::UNKNOWN_COMMAND;
-use frame::refusals::VALUE_OUT_OF_RANGE;
+use crate::table::{FIELDS_MAX, count_of, is_known, place_at, power, row_of, size_of, width_at};
+use frame::refusals::{BUFFER_TOO_SHORT, Refusal, UNKNOWN_COMMAND, VALUE_OUT_OF_RANGE};
 
 // A command as numbers: its row in the table (the nine that go down by their identifiers, then the nine that go up) and its
 // values in the order of its fields, with zeros behind them.
+#[derive(Drop)]
 pub struct Fields {
     pub row: usize,
     pub values: [u32; FIELDS_MAX],
 }
 
 // What writing answers: the place past the command, or a refusal.
+#[derive(Drop)]
 pub enum Written {
     Upto(usize),
     Refused(Refusal),
 }
 
 // The number behind an identifier, if every value fits its field.
+#[derive(Drop)]
 pub(crate) enum Packed {
     Number(u64),
     Unfit,
@@ -43,7 +34,7 @@ pub(crate) enum Packed {
 
 // The margin in six bits; 64, which they cannot hold, for one outside -32 to 31 (5.5).
 pub fn raw_of(m: i64) -> u32
-    ensures { λ r. ⌜ r ≡ rawOf m ⌝ }
+    ensures { result ≡ rawOf m }
 {
     if m < -32 {
         return 64;
@@ -58,7 +49,7 @@ pub fn raw_of(m: i64) -> u32
 }
 
 pub fn fields_of(command: Command) -> Fields
-    ensures { λ f. ⌜ f ≡ fieldsAs command ⌝ }
+    ensures { result ≡ fieldsAs command }
 {
     match command {
         Command::LinkCheckAns { margin, gateways } => Fields {
@@ -189,24 +180,24 @@ pub fn fields_of(command: Command) -> Fields
 
 // Whether a value is more than its field can hold.
 fn too_large(r: usize, k: usize, x: u32) -> bool
-    requires { ⌜ (r < 18) × (k < 5) ⌝ }
-    ensures { λ t. ⌜ t ≡ leb (2 ^ widthAt (row r) k) x ⌝ }
+    requires { (r < 18) × (k < 5) }
+    ensures { result ≡ leb (2 ^ width_at (row r) k) x }
 {
     power(width_at(r, k)) <= (x as u64)
 }
 
 // A value at the place of its field.
 fn placed(r: usize, k: usize, x: u32) -> u64
-    requires { ⌜ (r < 18) × (k < 5) ⌝ }
-    requires { ⌜ x < 2 ^ widthAt (row r) k ⌝ }
-    ensures { λ v. ⌜ v ≡ x * 2 ^ placeAt (row r) k ⌝ }
+    requires r_bound { (r < 18) × (k < 5) }
+    requires x_bound { x < 2 ^ width_at (row r) k }
+    ensures { result ≡ x * 2 ^ placeAt (row r) k }
 {
     (x as u64) * power(place_at(r, k))
 }
 
 fn pack(r: usize, x: [u32; FIELDS_MAX]) -> Packed
-    requires { ⌜ r < 18 ⌝ }
-    ensures { λ p. ⌜ p ≡ packedOf r x ⌝ }
+    requires { r < 18 }
+    ensures { result ≡ packedOf r x }
 {
     let n = count_of(r);
     let mut v: u64 = 0;
@@ -224,8 +215,8 @@ fn pack(r: usize, x: [u32; FIELDS_MAX]) -> Packed
 
 // Stores the `n` low bytes of a number from `from` on, low byte first; answers the place past them.
 fn put_number(out: &mut [u8], from: usize, n: usize, v: u64) -> usize
-    requires { ⌜ from + n ≤ length (now out) ⌝ }
-    ensures { λ r. ⌜ Put (now (out .entry)) from (bytesOf n v) r (now (out .exit)) ⌝ }
+    requires { from + n ≤ length out.old }
+    ensures { Put out.old from (bytes_of n v) result out.new }
 {
     let mut rest = v;
     let mut place = from;
@@ -241,16 +232,16 @@ fn put_number(out: &mut [u8], from: usize, n: usize, v: u64) -> usize
 
 // A refusal of writing, at place 0: nothing is read here that could be bad at a place.
 fn unwritten(number: u8) -> Written
-    ensures { λ w. ⌜ w ≡ Unwritten (refused number) ⌝ }
+    ensures { result ≡ Unwritten (refused number) }
 {
     Written::Refused(Refusal { number, place: 0 })
 }
 
 // The identifier of a row and the number behind it, where there is room for them.
 fn put_row(out: &mut [u8], at: usize, r: usize, v: u64) -> Written
-    requires { ⌜ r < 18 ⌝ }
-    ensures { λ w. ⌜ w ≡ putAs r (length (now (out .entry))) at ⌝ }
-    ensures { λ _. ⌜ now (out .exit) ≡ putIn r v (now (out .entry)) at ⌝ }
+    requires { r < 18 }
+    ensures value { result ≡ putAs r (length out.old) at }
+    ensures out_after { out.new ≡ put_in r v out.old at }
 {
     let n = size_of(r);
     if out.len() <= at {
@@ -264,9 +255,9 @@ fn put_row(out: &mut [u8], at: usize, r: usize, v: u64) -> Written
 }
 
 fn write_row(r: usize, values: [u32; FIELDS_MAX], out: &mut [u8], at: usize) -> Written
-    requires { ⌜ r < 18 ⌝ }
-    ensures { λ w. ⌜ w ≡ writtenAs r values (length (now (out .entry))) at ⌝ }
-    ensures { λ _. ⌜ now (out .exit) ≡ writtenIn r values (now (out .entry)) at ⌝ }
+    requires { r < 18 }
+    ensures value { result ≡ writtenAs r values (length out.old) at }
+    ensures out_after { out.new ≡ writtenIn r values out.old at }
 {
     let packed = pack(r, values);
     let Packed::Number(v) = packed else {
@@ -277,8 +268,8 @@ fn write_row(r: usize, values: [u32; FIELDS_MAX], out: &mut [u8], at: usize) -> 
 
 // Writes a command from a place on, and answers the place past it. A refusal writes nothing.
 pub fn write_command(command: Command, out: &mut [u8], at: usize) -> Written
-    ensures { λ w. ⌜ w ≡ commandWritten command (length (now (out .entry))) at ⌝ }
-    ensures { λ _. ⌜ now (out .exit) ≡ commandIn command (now (out .entry)) at ⌝ }
+    ensures value { result ≡ commandWritten command (length out.old) at }
+    ensures out_after { out.new ≡ commandIn command out.old at }
 {
     let fields = fields_of(command);
     let values = fields.values;
@@ -294,8 +285,8 @@ pub fn write_fields(
     out: &mut [u8],
     at: usize,
 ) -> Written
-    ensures { λ w. ⌜ w ≡ fieldsWritten uplink id values (length (now (out .entry))) at ⌝ }
-    ensures { λ _. ⌜ now (out .exit) ≡ fieldsIn uplink id values (now (out .entry)) at ⌝ }
+    ensures value { result ≡ fieldsWritten uplink id values (length out.old) at }
+    ensures out_after { out.new ≡ fieldsIn uplink id values out.old at }
 {
     if !is_known(id) {
         return unwritten(UNKNOWN_COMMAND);

@@ -1,21 +1,15 @@
 // The commands, by the names of LoRaWAN 1.0.2, section 5, and reading them (maccommands.rs of the crate).
-ghost use mathlib.Core.Path.{_≡_};
-ghost use mathlib.Core.Bool.{true};
-ghost use Prim.Native.Nat.{_+_, _≤_, _<_};
-ghost use lib.ListN.{length};
-ghost use Rattle·base.specs.Bytes.{part};
-ghost use Rattle·mac_commands·specs.specs.Layout.{row, fits, fieldsOf, lowFirst};
-ghost use Rattle·mac_commands·specs.specs.Commands.{marginOf, commandOf, rawAt, rawStepAt, stepAt};
-use crate::table::FIELDS_MAX;
-use crate::table::is_known;
-use crate::table::row_of;
-use crate::table::size_of;
-use frame::refusals::COMMAND_CUT_SHORT;
-use frame::refusals::Refusal;
-use frame::refusals::UNKNOWN_COMMAND;
+ghost use Rattle.std.specs.Prelude.{◌≡◌, true, ◌+◌, ◌≤◌, ◌<◌, length};
+ghost use Rattle.base.specs.Bytes.{part};
+ghost use Rattle.mac_commands.specs.Layout.{row, fits, fields_of, low_first};
+ghost use Rattle.mac_commands.specs.Commands.{marginOf, commandOf, rawAt, rawStepAt, stepAt};
+
+use crate::table::{FIELDS_MAX, is_known, row_of, size_of};
+use frame::refusals::{COMMAND_CUT_SHORT, Refusal, UNKNOWN_COMMAND};
 
 // A command with its fields. The first nine go down, the last nine up, both by their identifiers 02 to 0A. Frequencies are in
 // units of 100 Hz.
+#[derive(Drop)]
 pub enum Command {
     LinkCheckAns {
         margin: u8,
@@ -84,6 +78,7 @@ pub enum Command {
 }
 
 // One step of reading: a command and the place of the next one, the end of the list, or a refusal with its place.
+#[derive(Drop)]
 pub enum Step {
     Found(Command, usize),
     End,
@@ -91,6 +86,7 @@ pub enum Step {
 }
 
 // The same with the command as it stands in the bytes: its row in the table and the number behind its identifier.
+#[derive(Drop)]
 pub enum RawStep {
     Found(usize, u64, usize),
     End,
@@ -99,7 +95,7 @@ pub enum RawStep {
 
 // The margin of its six bits, in two's complement (5.5); -1 for a number that has more of them.
 pub fn margin_of(x: u32) -> i8
-    ensures { λ r. ⌜ r ≡ marginOf x ⌝ }
+    ensures { result ≡ marginOf x }
 {
     if x < 32 {
         return x as i8;
@@ -113,7 +109,7 @@ pub fn margin_of(x: u32) -> i8
 // The values of a row's fields, of the number behind its identifier; 0 for a field that it lacks, as for one of no row. Dividing by 1
 // names a field's place as the others do.
 pub fn values_of(r: usize, v: u64) -> [u32; FIELDS_MAX]
-    ensures { λ x. ⌜ x ≡ fieldsOf (row r) v ⌝ }
+    ensures { result ≡ fields_of (row r) v }
 {
     match r {
         0 => [(v / 1 % 256) as u32, (v / 256 % 256) as u32, 0, 0, 0],
@@ -176,8 +172,8 @@ pub fn values_of(r: usize, v: u64) -> [u32; FIELDS_MAX]
 
 // The command of a row and of the values of its fields.
 fn command_of(r: usize, x: [u32; FIELDS_MAX]) -> Command
-    requires { ⌜ fits (row r) x ≡ true ⌝ }
-    ensures { λ c. ⌜ c ≡ commandOf r x ⌝ }
+    requires { fits (row r) x ≡ true }
+    ensures { result ≡ commandOf r x }
 {
     match r {
         0 => Command::LinkCheckAns {
@@ -246,8 +242,8 @@ fn command_of(r: usize, x: [u32; FIELDS_MAX]) -> Command
 
 // The number of `n` bytes from `from` on, low byte first. It is written out, since the steps of a loop would cost more than its bytes.
 fn number_at(bytes: &[u8], from: usize, n: usize) -> u64
-    requires { ⌜ (n ≤ 5) × (from + n ≤ length (now bytes)) ⌝ }
-    ensures { λ r. ⌜ r ≡ lowFirst (part from n (now (bytes .entry))) ⌝ }
+    requires { (n ≤ 5) × (from + n ≤ length bytes.now) }
+    ensures { result ≡ low_first (part from n bytes.now) }
 {
     if n == 0 {
         return 0;
@@ -272,8 +268,8 @@ fn number_at(bytes: &[u8], from: usize, n: usize) -> u64
 }
 
 fn read_row(bytes: &[u8], at: usize, r: usize) -> RawStep
-    requires { ⌜ (r < 18) × (at < length (now bytes)) ⌝ }
-    ensures { λ s. ⌜ s ≡ rawAt r (now (bytes .entry)) at ⌝ }
+    requires { (r < 18) × (at < length bytes.now) }
+    ensures { result ≡ rawAt r bytes.now at }
 {
     let n = size_of(r);
     if bytes.len() - at <= n {
@@ -288,7 +284,7 @@ fn read_row(bytes: &[u8], at: usize, r: usize) -> RawStep
 
 // Finds the command at a place of a list that goes up or down. At or past the end of the list is its end.
 pub fn read_raw(uplink: bool, bytes: &[u8], at: usize) -> RawStep
-    ensures { λ s. ⌜ s ≡ rawStepAt uplink (now (bytes .entry)) at ⌝ }
+    ensures { result ≡ rawStepAt uplink bytes.now at }
 {
     if bytes.len() <= at {
         return RawStep::End;
@@ -305,7 +301,7 @@ pub fn read_raw(uplink: bool, bytes: &[u8], at: usize) -> RawStep
 
 // Reads the command there.
 pub fn read_step(uplink: bool, bytes: &[u8], at: usize) -> Step
-    ensures { λ s. ⌜ s ≡ stepAt uplink (now (bytes .entry)) at ⌝ }
+    ensures { result ≡ stepAt uplink bytes.now at }
 {
     let raw = read_raw(uplink, bytes, at);
     match raw {

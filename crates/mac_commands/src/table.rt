@@ -1,9 +1,8 @@
 // The layouts as numbers: for each row (down, then up, by the identifier) how many bytes stand behind the identifier, how many fields
 // there are, and of each field its lowest bit and how many bits it has.
-ghost use mathlib.Core.Path.{_≡_};
-ghost use Prim.Native.Nat.{_^_, _≤_, _<_};
-ghost use Rattle·mac_commands·specs.specs.Layout.{row, rowOf, known, sizeOf, countOf, placeAt, widthAt};
-ghost use Rattle·mac_commands·specs.specs.Table.{tableRow};
+ghost use Rattle.std.specs.Prelude.{◌≡◌, ◌^◌, ◌≤◌, ◌<◌};
+ghost use Rattle.mac_commands.specs.Layout.{row, row_of, known, size_of, countOf, placeAt, width_at};
+ghost use Rattle.mac_commands.specs.Table.{tableRow};
 
 // A command has at most so many fields.
 pub(crate) const FIELDS_MAX: usize = 5;
@@ -11,7 +10,7 @@ pub(crate) const FIELDS_MAX: usize = 5;
 // A row as one number, from bit 0 up: for each of five fields its lowest bit in 6 bits and its width in 5, then the count of fields
 // and the count of bytes in 3 each. A match becomes one load; a constant array would be copied at each use.
 fn table_row(r: usize) -> u64
-    ensures { λ l. ⌜ l ≡ tableRow r ⌝ }
+    ensures { result ≡ tableRow r }
 {
     match r {
         0 => 0x0901_0020_0410_4200,
@@ -38,7 +37,7 @@ fn table_row(r: usize) -> u64
 
 // Whether there is a command with this identifier, in both directions.
 pub(crate) fn is_known(id: u8) -> bool
-    ensures { λ r. ⌜ r ≡ known id ⌝ }
+    ensures { result ≡ known id }
 {
     if id < 2 {
         return false;
@@ -47,8 +46,8 @@ pub(crate) fn is_known(id: u8) -> bool
 }
 
 pub(crate) fn row_of(uplink: bool, id: u8) -> usize
-    requires { ⌜ (2 ≤ id) × (id ≤ 10) ⌝ }
-    ensures { λ r. ⌜ r ≡ rowOf uplink id ⌝ }
+    requires { (2 ≤ id) × (id ≤ 10) }
+    ensures { result ≡ row_of uplink id }
 {
     let n = (id - 2) as usize;
     if uplink {
@@ -58,37 +57,37 @@ pub(crate) fn row_of(uplink: bool, id: u8) -> usize
 }
 
 pub(crate) fn size_of(r: usize) -> usize
-    requires { ⌜ r < 18 ⌝ }
-    ensures { λ n. ⌜ n ≡ sizeOf r ⌝ }
+    requires { r < 18 }
+    ensures { result ≡ size_of r }
 {
     (table_row(r) / 288230376151711744 % 8) as usize
 }
 
 pub(crate) fn count_of(r: usize) -> usize
-    requires { ⌜ r < 18 ⌝ }
-    ensures { λ n. ⌜ n ≡ countOf (row r) ⌝ }
+    requires { r < 18 }
+    ensures { result ≡ countOf (row r) }
 {
     (table_row(r) / 36028797018963968 % 8) as usize
 }
 
 pub(crate) fn place_at(r: usize, k: usize) -> u8
-    requires { ⌜ (r < 18) × (k < 5) ⌝ }
-    ensures { λ p. ⌜ p ≡ placeAt (row r) k ⌝ }
+    requires { (r < 18) × (k < 5) }
+    ensures { result ≡ placeAt (row r) k }
 {
     ((table_row(r) >> (11 * k)) % 64) as u8
 }
 
 pub(crate) fn width_at(r: usize, k: usize) -> u8
-    requires { ⌜ (r < 18) × (k < 5) ⌝ }
-    ensures { λ w. ⌜ w ≡ widthAt (row r) k ⌝ }
+    requires { (r < 18) × (k < 5) }
+    ensures { result ≡ width_at (row r) k }
 {
     ((table_row(r) >> (11 * k + 6)) % 32) as u8
 }
 
 // 2 to the n.
 pub(crate) fn power(n: u8) -> u64
-    requires { ⌜ n < 64 ⌝ }
-    ensures { λ r. ⌜ r ≡ 2 ^ n ⌝ }
+    requires { n < 64 }
+    ensures { result ≡ 2 ^ n }
 {
     1u64 << n
 }

@@ -1,16 +1,9 @@
 // Kind 12: a frame opened for amendments, and those that stand behind it in the record, one by one. Kind 17: a frame that is
 // lent, and a list.
-use crate::input::ROOM;
-use crate::input::after;
-use crate::input::copy_numbers;
-use crate::input::length_at;
-use crate::input::number_at;
-use crate::output::put_all;
-use crate::output::put_first;
-use crate::output::put_refusal;
+use crate::input::{ROOM, after, copy_numbers, length_at, number_at};
+use crate::output::{put_all, put_first, put_refusal};
 use amend::amending::Open;
-use base::storing::block_at;
-use base::storing::byte_at;
+use base::storing::{block_at, byte_at};
 
 // One amendment: four bytes of offset and one of value.
 fn amend_at(record: &[u8], place: usize, state: Open) -> Open {

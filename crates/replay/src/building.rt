@@ -1,28 +1,14 @@
 // Kinds 9 to 11: the builders. Every byte of the output is 0xA5 ahead of the call, and the output is shown whole.
-ghost use Prim.Native.Nat.{_≤_};
-use crate::input::ROOM;
-use crate::input::after;
-use crate::input::copy;
-use crate::input::copy_numbers;
-use crate::input::eight_at;
-use crate::input::length_at;
-use crate::input::number_at;
-use crate::input::two_at;
-use crate::output::put;
-use crate::output::put_all;
-use crate::output::put_length;
-use crate::output::put_refusal;
-use base::storing::block_at;
-use base::storing::byte_at;
-use base::storing::four_at;
-use base::storing::three_at;
+ghost use Rattle.std.specs.Prelude.{◌≤◌};
+
+use crate::input::{ROOM, after, copy, copy_numbers, eight_at, length_at, number_at, two_at};
+use crate::output::{put, put_all, put_length, put_refusal};
+use base::storing::{block_at, byte_at, four_at, three_at};
 use frame::parser::FPort;
-use frame_build::creator::data_frame::DataParts;
-use frame_build::creator::data_frame::build_data;
-use frame_build::creator::join::JoinAcceptParts;
-use frame_build::creator::join::JoinRequestParts;
-use frame_build::creator::join::build_join_accept;
-use frame_build::creator::join::build_join_request;
+use frame_build::creator::data_frame::{DataParts, build_data};
+use frame_build::creator::join::{
+    JoinAcceptParts, JoinRequestParts, build_join_accept, build_join_request,
+};
 use frame_security::sealing::Built;
 
 // A byte's worth of channels.
@@ -81,7 +67,7 @@ fn accept_parts(record: &[u8]) -> JoinAcceptParts {
 }
 
 fn channel_count(n: u8) -> usize
-    ensures { λ r. ⌜ r ≤ 256 ⌝ }
+    ensures { result ≤ 256 }
 {
     n as usize
 }

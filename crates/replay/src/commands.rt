@@ -1,29 +1,12 @@
 // Kinds 18 to 20: MAC commands, those of a list, one that is written, those of a frame.
-use crate::input::ROOM;
-use crate::input::after;
-use crate::input::copy;
-use crate::input::copy_numbers;
-use crate::input::length_at;
-use crate::input::number_at;
-use crate::output::put;
-use crate::output::put_all;
-use crate::output::put_first;
-use crate::output::put_flag;
-use crate::output::put_length;
-use crate::output::put_numbers;
-use crate::output::put_place;
-use crate::output::put_refusal;
+use crate::input::{ROOM, after, copy, copy_numbers, length_at, number_at};
+use crate::output::{
+    put, put_all, put_first, put_flag, put_length, put_numbers, put_place, put_refusal,
+};
 use base::storing::byte_at;
-use mac_commands::in_frame::CommandLists;
-use mac_commands::in_frame::InFrame;
-use mac_commands::in_frame::command_lists;
-use mac_commands::maccommandcreator::Written;
-use mac_commands::maccommandcreator::fields_of;
-use mac_commands::maccommandcreator::write_command;
-use mac_commands::maccommandcreator::write_fields;
-use mac_commands::maccommands::Command;
-use mac_commands::maccommands::Step;
-use mac_commands::maccommands::read_step;
+use mac_commands::in_frame::{CommandLists, InFrame, command_lists};
+use mac_commands::maccommandcreator::{Written, fields_of, write_command, write_fields};
+use mac_commands::maccommands::{Command, Step, read_step};
 
 // No command has more bytes.
 const COMMAND_MAX: usize = 6;

@@ -1,20 +1,9 @@
 // Kind 15: a frame held open in a buffer of zeros, the history of calls that stands behind it in the record, and the frame
 // taken out.
-use crate::input::ROOM;
-use crate::input::after;
-use crate::input::copy_numbers;
-use crate::input::length_at;
-use crate::input::number_at;
-use crate::output::put_all;
-use crate::output::put_length;
-use crate::output::put_refusal;
-use amend_held::calls::Taken;
-use amend_held::calls::amend_held;
-use amend_held::calls::amend_list_held;
-use amend_held::calls::frame_of;
-use amend_held::calls::open_into;
-use base::storing::block_at;
-use base::storing::byte_at;
+use crate::input::{ROOM, after, copy_numbers, length_at, number_at};
+use crate::output::{put_all, put_length, put_refusal};
+use amend_held::calls::{Taken, amend_held, amend_list_held, frame_of, open_into};
+use base::storing::{block_at, byte_at};
 
 // One amendment: four bytes of offset and one of value.
 fn amend_one(record: &[u8], place: usize, buffer: &mut [u8; 868]) {

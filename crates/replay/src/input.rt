@@ -1,8 +1,7 @@
 // The arguments of a record, by their places. What does not lie inside a record is taken as zeros.
-ghost use Prim.Native.Nat.{_≤_};
-use base::storing::block_at;
-use base::storing::byte_at;
-use base::storing::four_at;
+ghost use Rattle.std.specs.Prelude.{◌≤◌};
+
+use base::storing::{block_at, byte_at, four_at};
 use frame::keys::MaybeKey;
 use std::num::wrapping_add_usize;
 
@@ -11,7 +10,7 @@ pub const ROOM: usize = 1000;
 
 // A length of two bytes, low byte first, or all the room where it says more.
 pub fn length_of(low: u8, high: u8) -> usize
-    ensures { λ r. ⌜ r ≤ 1000 ⌝ }
+    ensures { result ≤ 1000 }
 {
     let n = (low as usize) + (high as usize) * 256;
     if n < ROOM { n } else { ROOM }
@@ -23,7 +22,7 @@ pub fn after(place: usize, n: usize) -> usize {
 }
 
 pub fn length_at(record: &[u8], place: usize) -> usize
-    ensures { λ r. ⌜ r ≤ 1000 ⌝ }
+    ensures { result ≤ 1000 }
 {
     let low = byte_at(record, place);
     let high = byte_at(record, after(place, 1));

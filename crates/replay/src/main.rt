@@ -2,9 +2,7 @@
 // many there were. tools/oracle/README.md has the formats; tools/oracle/record.py lays the cases and the right answers
 // beside this program, whose contracts say only that it is safe and ends.
 use crate::input::ROOM;
-use libc::STDERR_FILENO;
-use libc::STDIN_FILENO;
-use libc::STDOUT_FILENO;
+use libc::{STDERR_FILENO, STDIN_FILENO, STDOUT_FILENO};
 
 mod amending;
 mod building;

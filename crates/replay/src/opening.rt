@@ -1,20 +1,10 @@
 // Kinds 1 to 8, 12, 15 and 17: MIC tests, decryption, session keys, amendments, frames held open. Each has its frame behind
 // arguments of a fixed length.
-use crate::amending::amend_lent;
-use crate::amending::open_and_amend;
+use crate::amending::{amend_lent, open_and_amend};
 use crate::holding::hold;
-use crate::input::ROOM;
-use crate::input::after;
-use crate::input::copy;
-use crate::input::length_at;
-use crate::input::maybe_key_at;
-use crate::input::number_at;
-use crate::input::two_at;
-use crate::output::put;
-use crate::output::put_all;
-use crate::output::put_refusal;
-use base::storing::block_at;
-use base::storing::byte_at;
+use crate::input::{ROOM, after, copy, length_at, maybe_key_at, number_at, two_at};
+use crate::output::{put, put_all, put_refusal};
+use base::storing::{block_at, byte_at};
 use frame_opening::mic_tests::MicTest;
 use frame_opening::payload::Opening;
 
@@ -79,10 +69,7 @@ fn decrypt_data_checked(record: &[u8], frame: &mut [u8]) {
     let app_skey = maybe_key_at(record, 17);
     let counter = number_at(record, 34);
     put_opening(frame_opening::default_crypto::decrypt_data_checked(
-        frame,
-        nwk_skey,
-        app_skey,
-        counter,
+        frame, nwk_skey, app_skey, counter,
     ));
     put_all(frame);
 }

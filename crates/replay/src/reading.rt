@@ -1,27 +1,16 @@
 // Kinds 13, 14 and 16: what a frame holds, and what a clear join-accept and a join-request say.
-use crate::input::ROOM;
-use crate::input::copy;
-use crate::input::length_at;
-use crate::output::put;
-use crate::output::put_accepted;
-use crate::output::put_all;
-use crate::output::put_flag;
-use crate::output::put_length;
-use crate::output::put_numbers;
-use crate::output::put_place;
-use crate::output::put_refusal;
+use crate::input::{ROOM, copy, length_at};
+use crate::output::{
+    put, put_accepted, put_all, put_flag, put_length, put_numbers, put_place, put_refusal,
+};
 use base::storing::four_at;
-use frame::join_fields::CfList;
-use frame::join_fields::JoinAcceptFields;
-use frame::join_fields::JoinRequestFields;
-use frame::join_fields::join_accept_fields;
-use frame::join_fields::join_request_fields;
-use frame::numbers::Values;
-use frame::numbers::values_of;
+use frame::join_fields::{
+    CfList, JoinAcceptFields, JoinRequestFields, join_accept_fields, join_request_fields,
+};
+use frame::numbers::{Values, values_of};
 use frame::parser::read;
 use frame::refusals::Refusal;
-use frame_bits::fctrl::FCtrl;
-use frame_bits::fctrl::is_uplink;
+use frame_bits::fctrl::{FCtrl, is_uplink};
 
 fn put_request(fields: JoinRequestFields) {
     let app_eui = fields.app_eui;

@@ -1,7 +1,6 @@
 // Reads one frame as raw bytes from standard input, to its end, and writes its text to standard output (docs/RULES.md, "Text").
 use input::START_ROOM;
-use libc::STDERR_FILENO;
-use libc::STDOUT_FILENO;
+use libc::{STDERR_FILENO, STDOUT_FILENO};
 use show_text::TEXT_ROOM;
 
 fn main() {

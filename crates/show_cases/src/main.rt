@@ -1,8 +1,7 @@
 // Writes the text of each frame that standard input holds, and a line with two dashes after it. A frame stands there
 // after its length in two bytes, low byte first. What must come out tools/show_cases.py made from docs/RULES.md.
 use input::RECORD_ROOM;
-use libc::STDIN_FILENO;
-use libc::STDOUT_FILENO;
+use libc::{STDIN_FILENO, STDOUT_FILENO};
 use show_text::TEXT_ROOM;
 
 // The text of a frame; whether it was written whole.

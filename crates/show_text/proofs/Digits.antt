@@ -1,14 +1,14 @@
 -- Digits: one test of the table of digits, and one byte more in hex.
 -- Assumes nothing.
-use mathlib.Core.Path.{_≡_, refl, sym, ap, _∙_}
-use mathlib.Core.List.{List, [], _∷_, _++_}
-use Prim.Native.Nat.{ℕ, _+_, _/_, _%_, _<_}
+use mathlib.Core.Path.{◌≡◌, refl, sym, ap, ◌∙◌}
+use mathlib.Core.List.{List, [], ◌∷◌, ◌++◌}
+use Prim.Native.Nat.{ℕ, ◌+◌, ◌/◌, ◌%◌, ◌<◌}
 use native.Mathlib.Numerals.{add-one}
 use lib.ListN.{length, take}
 use lib.Seq.{take-suc}
-use Rattle·base.specs.Bytes.{at}
-use Rattle·base.proofs.Tested.{agree}
-use Rattle·show_text·specs.specs.Text.{digitOf, hexOf}
+use Rattle.base.specs.Bytes.{at}
+use Rattle.base.proofs.Tested.{agree}
+use Rattle.show_text.specs.Text.{digitOf, hexOf}
 
 -- the table of the code
 abbrev pub digits : List ℕ

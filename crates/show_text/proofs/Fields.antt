@@ -2,54 +2,54 @@
 -- end is not ahead of its start, and the bytes from the MIC's place on are the MIC. Each follows from the frame's length and
 -- from its bytes being bytes.
 -- Assumes nothing.
-use mathlib.Core.Path.{_≡_, refl, sym, ap, _∙_, subst}
-use mathlib.Core.List.{List, [], _∷_}
-use Prim.Native.Nat.{ℕ, _+_, _-_, _≤_, _<_}
+use mathlib.Core.Path.{◌≡◌, refl, sym, ap, ◌∙◌, subst}
+use mathlib.Core.List.{List, [], ◌∷◌}
+use Prim.Native.Nat.{ℕ, ◌+◌, ◌-◌, ◌≤◌, ◌<◌}
 use native.Mathlib.Omega.{arith}
 use lib.Dec.{eqb}
 use lib.ListN.{length, take, drop, length-drop}
-use lib.Seq.{take-all}
+use lib.Seq.{take_all}
 use borrow.Author.Tests.{leb-true}
-use Rattle·base.specs.Bytes.{part, AreBytes}
-use Rattle·base.proofs.Cases.{by-bool, by-order}
-use Rattle·base.proofs.Parts.{part-tab}
-use Rattle·frame.specs.Layout.{micOf, fhdrLength, hasPort, fport}
-use Rattle·frame.specs.Reading.{portOf, payloadOf, dataOf}
-use Rattle·frame.specs.ReadingNumbers.{portNumber}
-use Rattle·frame.specs.Conditions.{IsData}
-use Rattle·frame.specs.declared.parser.DataFrame.{DataFrame}
-use Rattle·frame.proofs.ReadingSteps.{port-there, port-absent}
-use Rattle·show_text·specs.specs.Text.{Spans}
+use Rattle.base.specs.Bytes.{part, AreBytes}
+use Rattle.base.proofs.Cases.{by_bool, by_order}
+use Rattle.base.proofs.Parts.{part-tab}
+use Rattle.frame.specs.Layout.{micOf, fhdrLength, hasPort, fport}
+use Rattle.frame.specs.Reading.{portOf, payloadOf, data_of}
+use Rattle.frame.specs.ReadingNumbers.{portNumber}
+use Rattle.frame.specs.Conditions.{IsData}
+use Rattle.frame.specs.declared.parser.DataFrame.{DataFrame}
+use Rattle.frame.proofs.ReadingSteps.{port-there, port-absent}
+use Rattle.show_text.specs.Text.{Spans}
 
 payload-spans : (f : List ℕ) → IsData f → Spans (payloadOf f)
 unfolding payloadOf portOf
 payload-spans f h =
-    by-bool (hasPort f)
+    by_bool (hasPort f)
     (λ e.
     let ends : fhdrLength f + 2 ≤ length f - 4 = omega (arith, leb-true (fhdrLength f + 6) (length f) e) in
-    let small : length f - 4 < 100000 = omega (arith, h .most) in
-    by-bool (eqb (fport f) 0) (λ z. simp (e, z) (ends, small)) (λ z. simp (e, z) (ends, small)))
+    let small : length f - 4 < 100000 = omega (arith, h.most) in
+    by_bool (eqb (fport f) 0) (λ z. simp (e, z) (ends, small)) (λ z. simp (e, z) (ends, small)))
     (λ e. simp e tt)
 
 port-below : (f : List ℕ) → AreBytes f → portNumber (portOf f) < 100000
 port-below f b =
-    by-order (fhdrLength f + 6) (length f) (λ h. rw (port-there f h) (omega (arith, b (1 + fhdrLength f))))
+    by_order (fhdrLength f + 6) (length f) (λ h. rw (port-there f h) (omega (arith, b (1 + fhdrLength f))))
     (λ h. rw (port-absent f h) (omega arith))
 
 pub record Fields (f : List ℕ) (d : DataFrame) : Type 0 where
-  pub type-small : d .mtype < 100000
-  pub fcnt-small : d .fcnt < 100000
-  pub port-small : portNumber (d .port) < 100000
-  pub fopts-from : 8 ≤ d .«fopts_end»
-  pub fopts-most : d .«fopts_end» ≤ 23
-  pub spans : Spans (d .payload)
-  pub mic-at : d .mic ≡ length f - 4
+  pub type-small : d.mtype < 100000
+  pub fcnt-small : d.fcnt < 100000
+  pub port-small : portNumber d.port < 100000
+  pub fopts-from : 8 ≤ d.fopts_end
+  pub fopts-most : d.fopts_end ≤ 23
+  pub spans : Spans d.payload
+  pub mic-at : d.mic ≡ length f - 4
 
-fields-of : (f : List ℕ) → AreBytes f → IsData f → Fields f (dataOf f)
-unfolding dataOf
+fields-of : (f : List ℕ) → AreBytes f → IsData f → Fields f (data_of f)
+unfolding data_of
 fields-of f b h =
     record {
-      type-small = omega (arith, h .below);
+      type-small = omega (arith, h.below);
       fcnt-small = omega (arith, b 6, b 7);
       port-small = port-below f b;
       fopts-from = omega arith;
@@ -58,20 +58,20 @@ fields-of f b h =
       mic-at = refl;
     }
 
-pub fields : (f : List ℕ) (d : DataFrame) → AreBytes f → IsData f → d ≡ dataOf f → Fields f d
+pub fields : (f : List ℕ) (d : DataFrame) → AreBytes f → IsData f → d ≡ data_of f → Fields f d
 fields f d b h e = subst (λ (x : DataFrame). Fields f x) (sym e) (fields-of f b h)
 
 -- the bytes from the MIC's place on
 pub mic-part : (f : List ℕ) (m : ℕ) → m ≡ length f - 4 → take (length f - m) (drop m f) ≡ micOf f
 mic-part f m e =
-    take-all (length f - m) (drop m f) (omega (arith, length-drop m f)) ∙ ap (λ (n : ℕ). drop n f) e
+    take_all (length f - m) (drop m f) (omega (arith, length-drop m f)) ∙ ap (λ (n : ℕ). drop n f) e
 
 -- the last four of the 23 bytes of a join-request
 pub mic-last : (f : List ℕ) → length f ≡ 23 → part 19 4 f ≡ micOf f
 mic-last f h = ap (λ (n : ℕ). take (n - 19) (drop 19 f)) (sym h) ∙ mic-part f 19 (omega arith)
 
 -- FCtrl as a part of the frame
-pub fctrl-part : (f : List ℕ) (d : DataFrame) → IsData f → d ≡ dataOf f → part 5 1 f ≡ d .fctrl ∷ []
-unfolding dataOf
+pub fctrl-part : (f : List ℕ) (d : DataFrame) → IsData f → d ≡ data_of f → part 5 1 f ≡ d.fctrl ∷ []
+unfolding data_of
 fctrl-part f d h e =
-    part-tab 5 1 f (omega (arith, h .least)) ∙ ap (λ (x : DataFrame). x .fctrl ∷ []) (sym e)
+    part-tab 5 1 f (omega (arith, h.least)) ∙ ap (λ (x : DataFrame). x.fctrl ∷ []) (sym e)

@@ -1,31 +1,31 @@
 -- How long each line is at most, and so each text: a number below 100,000 has at most five digits, any number has at most
 -- twenty, a byte has two.
 -- Assumes nothing.
-use mathlib.Core.Path.{_≡_, refl}
-use mathlib.Core.List.{List, [], _∷_, _++_}
-use mathlib.Core.Logic.{⊎-elim}
-use Prim.Native.Nat.{ℕ, _+_, _-_, _*_, _≤_, _<_}
+use mathlib.Core.Path.{◌≡◌, refl}
+use mathlib.Core.List.{List, [], ◌∷◌, ◌++◌}
+use mathlib.Core.Logic.{⊎_elim}
+use Prim.Native.Nat.{ℕ, ◌+◌, ◌-◌, ◌*◌, ◌≤◌, ◌<◌}
 use native.Mathlib.Omega.{arith}
 use lib.ListN.{length, length-append, length-drop, length-take}
 use borrow.Author.Tests.{lt-ltb, le-ltb}
-use Rattle·base.specs.Bytes.{part, AreBytes}
-use Rattle·base.proofs.Cases.{by-order}
-use Rattle·frame.specs.Layout.{micOf}
-use Rattle·frame.specs.Reading.{readOf}
-use Rattle·frame.specs.ReadingNumbers.{portNumber}
-use Rattle·frame.specs.Refusals.{refusal}
-use Rattle·frame.specs.declared.refusals.Refusal.{Refusal}
-use Rattle·frame.specs.declared.parser.FPort.{FPort}
-use Rattle·frame.specs.declared.parser.FPort.the-variants.{Absent, Port}
-use Rattle·frame.specs.declared.parser.FrmPayload.{FrmPayload}
-use Rattle·frame.specs.declared.parser.FrmPayload.the-variants.{Nothing, Data as PlainData, MacCommands}
-use Rattle·frame.specs.declared.parser.DataFrame.{DataFrame}
-use Rattle·frame.specs.declared.parser.Reading.{Reading}
-use Rattle·frame.specs.declared.parser.Reading.the-variants.{JoinRequest, JoinAccept, Data, Refused}
-use Rattle·frame.proofs.ReadingLaws.{accept-read, data-read, data-fields}
-use Rattle·show_text·specs.specs.Text.{hexOf, decimalOf, typeWord, lengthWord, fcntWord, foptsWord, portWord, refusedWord, atWord, payloadWord, space, newline, hexLine, numberLine, pairLine, portLine, placeLine, Spans, payloadLine, headerText, restText, dataText, euisText, joinRequestText, joinAcceptText, refusalText, textOfReading, textOf, textOfInput}
-use Rattle·show_text·proofs.proofs.Decimal.{length-decimalIn, length-small}
-use Rattle·show_text·proofs.proofs.Fields.{Fields, fields}
+use Rattle.base.specs.Bytes.{part, AreBytes}
+use Rattle.base.proofs.Cases.{by_order}
+use Rattle.frame.specs.Layout.{micOf}
+use Rattle.frame.specs.Reading.{read_of}
+use Rattle.frame.specs.ReadingNumbers.{portNumber}
+use Rattle.frame.specs.Refusals.{refusal}
+use Rattle.frame.specs.declared.refusals.Refusal.{Refusal}
+use Rattle.frame.specs.declared.parser.FPort.{FPort}
+use Rattle.frame.specs.declared.parser.FPort.TheVariants.{Absent, Port}
+use Rattle.frame.specs.declared.parser.FrmPayload.{FrmPayload}
+use Rattle.frame.specs.declared.parser.FrmPayload.TheVariants.{Nothing, Data as PlainData, MacCommands}
+use Rattle.frame.specs.declared.parser.DataFrame.{DataFrame}
+use Rattle.frame.specs.declared.parser.Reading.{Reading}
+use Rattle.frame.specs.declared.parser.Reading.TheVariants.{JoinRequest, JoinAccept, Data, Refused}
+use Rattle.frame.proofs.ReadingLaws.{accept-read, data-read, data-fields}
+use Rattle.show_text.specs.Text.{hexOf, decimalOf, typeWord, lengthWord, fcntWord, foptsWord, portWord, refusedWord, atWord, payloadWord, space, newline, hexLine, numberLine, pairLine, portLine, placeLine, Spans, payloadLine, headerText, restText, dataText, euisText, joinRequestText, joinAcceptText, refusalText, textOfReading, text_of, textOfInput}
+use Rattle.show_text.proofs.Decimal.{length-decimalIn, length-small}
+use Rattle.show_text.proofs.Fields.{Fields, fields}
 
 pub length-hexOf : (s : List ℕ) → length (hexOf s) ≡ 2 * length s
 unfolding hexOf
@@ -81,15 +81,15 @@ length-placeLine start end h k =
 pub length-payloadLine : (p : FrmPayload) → Spans p → length (payloadLine p) ≤ 20
 unfolding payloadLine
 length-payloadLine Nothing h = omega arith
-length-payloadLine (PlainData start end) h = length-placeLine start end (h .0) (h .1)
-length-payloadLine (MacCommands start end) h = length-placeLine start end (h .0) (h .1)
+length-payloadLine (PlainData start end) h = length-placeLine start end h.0 h.1
+length-payloadLine (MacCommands start end) h = length-placeLine start end h.0 h.1
 
-pub length-part : (i n : ℕ) (s : List ℕ) → length (part i n s) ≤ n
-length-part i n s = simp length-take (omega arith)
+pub length_part : (i n : ℕ) (s : List ℕ) → length (part i n s) ≤ n
+length_part i n s = simp length-take (omega arith)
 
 -- a line of a part of a frame
 pub length-partLine : (word : List ℕ) (i n : ℕ) (s : List ℕ) → length (hexLine word (part i n s)) ≤ length word + 2 * n + 1
-length-partLine word i n s = omega (arith, length-hexLine word (part i n s), length-part i n s)
+length-partLine word i n s = omega (arith, length-hexLine word (part i n s), length_part i n s)
 
 pub length-micOf : (f : List ℕ) → length (micOf f) ≤ 4
 length-micOf f = simp length-drop (omega arith)
@@ -101,9 +101,9 @@ module _ (f : List ℕ) (d : DataFrame) (known : Fields f d) where
       simp (length-append, length-hexLine)
       (omega (
         arith,
-        length-smallLine typeWord (d .mtype) (known .type-small),
-        length-part 1 4 f,
-        length-smallLine fcntWord (d .fcnt) (known .fcnt-small),
+        length-smallLine typeWord d.mtype known.type-small,
+        length_part 1 4 f,
+        length-smallLine fcntWord d.fcnt known.fcnt-small,
       ))
 
   length-restText : length (restText f d) ≤ 56
@@ -112,9 +112,9 @@ module _ (f : List ℕ) (d : DataFrame) (known : Fields f d) where
       simp (length-append, length-hexLine)
       (omega (
         arith,
-        length-smallLine foptsWord (d .«fopts_end» - 8) (omega (arith, known .fopts-most)),
-        length-portLine (d .port) (known .port-small),
-        length-payloadLine (d .payload) (known .spans),
+        length-smallLine foptsWord (d.fopts_end - 8) (omega (arith, known.fopts-most)),
+        length-portLine d.port known.port-small,
+        length-payloadLine d.payload known.spans,
         length-micOf f,
       ))
 
@@ -125,7 +125,7 @@ module _ (f : List ℕ) (d : DataFrame) (known : Fields f d) where
 pub length-euisText : (f : List ℕ) → length (euisText f) ≤ 53
 length-euisText f =
     simp (length-append, length-hexLine)
-    (omega (arith, length-smallLine typeWord 0 (omega arith), length-part 1 8 f, length-part 9 8 f))
+    (omega (arith, length-smallLine typeWord 0 (omega arith), length_part 1 8 f, length_part 9 8 f))
 
 length-joinRequestText : (f : List ℕ) → length (joinRequestText f) ≤ 77
 unfolding joinRequestText
@@ -134,9 +134,9 @@ length-joinRequestText f =
     (omega (
       arith,
       length-smallLine typeWord 0 (omega arith),
-      length-part 1 8 f,
-      length-part 9 8 f,
-      length-part 17 2 f,
+      length_part 1 8 f,
+      length_part 9 8 f,
+      length_part 17 2 f,
       length-micOf f,
     ))
 
@@ -160,26 +160,26 @@ length-refusalLine n p =
 
 length-refusalText : (r : Refusal) → length (refusalText r) ≤ 53
 unfolding refusalText
-length-refusalText r = length-refusalLine (r .number) (r .place)
+length-refusalText r = length-refusalLine r.number r.place
 
 -- ---- every text has room in a buffer of 128 bytes
 
 module _ (f : List ℕ) (bytes : AreBytes f) where
-  length-textOfReading : (r : Reading) → readOf f ≡ r → length (textOfReading f r) ≤ 128
+  length-textOfReading : (r : Reading) → read_of f ≡ r → length (textOfReading f r) ≤ 128
   unfolding textOfReading
   length-textOfReading JoinRequest e = omega (arith, length-joinRequestText f)
   length-textOfReading (JoinAccept n) e =
-      let small : n < 100000 = ⊎-elim (λ q. omega arith) (λ q. omega arith) (accept-read f e .either) in
+      let small : n < 100000 = ⊎_elim (λ q. omega arith) (λ q. omega arith) (accept-read f e).either in
       omega (arith, length-joinAcceptText n small)
   length-textOfReading (Data d) e = length-dataText f d (fields f d bytes (data-read f e) (data-fields f e))
   length-textOfReading (Refused r) e = omega (arith, length-refusalText r)
 
-  length-textOf : length (textOf f) ≤ 128
-  unfolding textOf
-  length-textOf = length-textOfReading (readOf f) refl
+  length-textOf : length (text_of f) ≤ 128
+  unfolding text_of
+  length-textOf = length-textOfReading (read_of f) refl
 
   pub length-textOfInput : (n : ℕ) → length (textOfInput f n) ≤ 128
   unfolding textOfInput
   length-textOfInput n =
-      by-order n 255 (λ h. simp (le-ltb 255 n h) length-textOf)
+      by_order n 255 (λ h. simp (le-ltb 255 n h) length-textOf)
       (λ h. simp (lt-ltb 255 n h) (omega (arith, length-refusalText (refusal 12 n))))

@@ -1,23 +1,20 @@
 -- The text that `show` writes for a frame, from docs/RULES.md, Text: what stands in each line, byte by byte in ASCII.
 -- A line is a word, a value and a line end (10). Hex is lower case and in frame order, numbers are decimal.
 -- Assumes nothing.
-use mathlib.Core.List.{List, [], _∷_, _++_}
-use Prim.Native.Nat.{ℕ, zero, suc, _+_, _-_, _/_, _%_, _≤_, _<_}
-use lib.Dec.{ltb}
-use lib.ListN.{length, drop}
-use Rattle·base.specs.Bytes.{pick}
-use Rattle·frame.specs.Layout.{devAddr, micOf, appEui, devEui, devNonce}
-use Rattle·frame.specs.Reading.{readOf}
-use Rattle·frame.specs.Refusals.{refusal, refused, notRefused}
-use Rattle·frame.specs.declared.refusals.Refusal.{Refusal}
-use Rattle·frame.specs.declared.parser.FPort.{FPort}
-use Rattle·frame.specs.declared.parser.FPort.the-variants.{Absent, Port}
-use Rattle·frame.specs.declared.parser.FrmPayload.{FrmPayload}
-use Rattle·frame.specs.declared.parser.FrmPayload.the-variants.{Nothing, Data as PlainData, MacCommands}
-use Rattle·frame.specs.declared.parser.DataFrame.{DataFrame}
-use Rattle·frame.specs.declared.parser.Reading.{Reading}
-use Rattle·frame.specs.declared.parser.Reading.the-variants.{JoinRequest, JoinAccept, Data, Refused}
-use Rattle·show_text·specs.specs.declared.Description.{Description}
+use Rattle.std.specs.Prelude.{List, [], ◌∷◌, ◌++◌, ℕ, zero, suc, ◌+◌, ◌-◌, ◌/◌, ◌%◌, ◌≤◌, ◌<◌, ltb, length, drop}
+use Rattle.base.specs.Bytes.{pick}
+use Rattle.frame.specs.Layout.{devAddr, micOf, appEui, devEui, devNonce}
+use Rattle.frame.specs.Reading.{read_of}
+use Rattle.frame.specs.Refusals.{refusal, refused, notRefused}
+use Rattle.frame.specs.declared.refusals.Refusal.{Refusal}
+use Rattle.frame.specs.declared.parser.FPort.{FPort}
+use Rattle.frame.specs.declared.parser.FPort.TheVariants.{Absent, Port}
+use Rattle.frame.specs.declared.parser.FrmPayload.{FrmPayload}
+use Rattle.frame.specs.declared.parser.FrmPayload.TheVariants.{Nothing, Data as PlainData, MacCommands}
+use Rattle.frame.specs.declared.parser.DataFrame.{DataFrame}
+use Rattle.frame.specs.declared.parser.Reading.{Reading}
+use Rattle.frame.specs.declared.parser.Reading.TheVariants.{JoinRequest, JoinAccept, Data, Refused}
+use Rattle.show_text.specs.declared.Description.{Description}
 
 -- ---- digits
 
@@ -146,12 +143,12 @@ Spans (MacCommands start end) = (start ≤ end) × (end < 100000)
 -- a data frame: eight lines, four of them from the fixed places of its header
 unfoldable pub headerText : List ℕ → DataFrame → List ℕ
 headerText f d =
-    numberLine typeWord (d .mtype) ++ hexLine addrWord (devAddr f) ++ hexLine fctrlWord (d .fctrl ∷ [])
-    ++ numberLine fcntWord (d .fcnt)
+    numberLine typeWord d.mtype ++ hexLine addrWord (devAddr f) ++ hexLine fctrlWord (d.fctrl ∷ [])
+    ++ numberLine fcntWord d.fcnt
 
 unfoldable pub restText : List ℕ → DataFrame → List ℕ
 restText f d =
-    numberLine foptsWord (d .«fopts_end» - 8) ++ portLine (d .port) ++ payloadLine (d .payload) ++ hexLine micWord (micOf f)
+    numberLine foptsWord (d.fopts_end - 8) ++ portLine d.port ++ payloadLine d.payload ++ hexLine micWord (micOf f)
 
 unfoldable pub dataText : List ℕ → DataFrame → List ℕ
 dataText f d = headerText f d ++ restText f d
@@ -168,7 +165,7 @@ joinAcceptText n = numberLine typeWord 1 ++ numberLine lengthWord n
 
 -- a refusal: its number and its place
 unfoldable pub refusalText : Refusal → List ℕ
-refusalText r = pairLine refusedWord (r .number) atWord (r .place)
+refusalText r = pairLine refusedWord r.number atWord r.place
 
 unfoldable pub textOfReading : List ℕ → Reading → List ℕ
 textOfReading f JoinRequest = joinRequestText f
@@ -176,12 +173,12 @@ textOfReading f (JoinAccept n) = joinAcceptText n
 textOfReading f (Data d) = dataText f d
 textOfReading f (Refused r) = refusalText r
 
-unfoldable pub textOf : List ℕ → List ℕ
-textOf f = textOfReading f (readOf f)
+unfoldable pub text_of : List ℕ → List ℕ
+text_of f = textOfReading f (read_of f)
 
 -- an input of n bytes that begins with start: up to 255 it is start, and more are too many, whatever they are
 unfoldable pub textOfInput : List ℕ → ℕ → List ℕ
-textOfInput start n = pick (ltb 255 n) (refusalText (refusal 12 n)) (textOf start)
+textOfInput start n = pick (ltb 255 n) (refusalText (refusal 12 n)) (text_of start)
 
 -- ---- the text in a lent buffer
 

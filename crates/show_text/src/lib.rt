@@ -1,37 +1,24 @@
 // The text that `show` writes for a frame (docs/RULES.md, Text).
-ghost use mathlib.Core.Path.{_≡_};
-ghost use mathlib.Core.List.{[], _∷_, _++_};
-ghost use Prim.Native.Nat.{_+_, _-_, _*_, _≤_, _<_};
-ghost use lib.ListN.{length};
-ghost use Rattle·base.specs.Bytes.{part};
-ghost use Rattle·base.specs.Storing.{Put};
-ghost use Rattle·frame.specs.Reading.{dataOf, readOf};
-ghost use Rattle·frame.specs.Conditions.{IsData};
-ghost use Rattle·show_text·specs.specs.Text.{digitOf, hexOf, decimalOf, typeWord, newline, hexLine, numberLine, pairLine, placeLine, Spans, payloadLine, portLine, headerText, restText, dataText, euisText, joinRequestText, joinAcceptText, refusalText, textOf, textOfInput, describedOf, describedIn};
+ghost use Rattle.std.specs.Prelude.{◌≡◌, [], ◌∷◌, ◌++◌, ◌+◌, ◌-◌, ◌*◌, ◌≤◌, ◌<◌, length};
+ghost use Rattle.base.specs.Bytes.{part};
+ghost use Rattle.base.specs.Storing.{Put};
+ghost use Rattle.frame.specs.Reading.{data_of, read_of};
+ghost use Rattle.frame.specs.Conditions.{IsData};
+ghost use Rattle.show_text.specs.Text.{digitOf, hexOf, decimalOf, typeWord, newline, hexLine, numberLine, pairLine, placeLine, Spans, payloadLine, portLine, headerText, restText, dataText, euisText, joinRequestText, joinAcceptText, refusalText, text_of, textOfInput, describedOf, describedIn};
+
 use base::storing::wide;
-use frame::packet_length::APP_EUI_AT;
-use frame::packet_length::DEV_ADDR_AT;
-use frame::packet_length::DEV_EUI_AT;
-use frame::packet_length::DEV_NONCE_AT;
-use frame::packet_length::FCNT_AT;
-use frame::packet_length::FCTRL_AT;
-use frame::packet_length::FOPTS_AT;
-use frame::packet_length::JOIN_REQUEST_LEN;
-use frame::packet_length::PHY_PAYLOAD_MAX_LEN;
-use frame::packet_length::REQUEST_MIC_AT;
-use frame::parser::DataFrame;
-use frame::parser::FPort;
-use frame::parser::FrmPayload;
-use frame::parser::Reading;
-use frame::parser::read;
-use frame::refusals::BUFFER_TOO_SHORT;
-use frame::refusals::FRAME_TOO_LONG;
-use frame::refusals::Refusal;
+use frame::packet_length::{
+    APP_EUI_AT, DEV_ADDR_AT, DEV_EUI_AT, DEV_NONCE_AT, FCNT_AT, FCTRL_AT, FOPTS_AT,
+    JOIN_REQUEST_LEN, PHY_PAYLOAD_MAX_LEN, REQUEST_MIC_AT,
+};
+use frame::parser::{DataFrame, FPort, FrmPayload, Reading, read};
+use frame::refusals::{BUFFER_TOO_SHORT, FRAME_TOO_LONG, Refusal};
 
 // A buffer of so many bytes has room for every text.
 pub const TEXT_ROOM: usize = 128;
 
 // A text that was written: how many bytes it has, beside the refusal.
+#[derive(Drop)]
 pub struct Description {
     pub refusal: Refusal,
     pub length: usize,
@@ -39,30 +26,15 @@ pub struct Description {
 
 // The digits of hex and, its first ten, of decimal.
 const DIGITS: [u8; 16] = [
-    b'0',
-    b'1',
-    b'2',
-    b'3',
-    b'4',
-    b'5',
-    b'6',
-    b'7',
-    b'8',
-    b'9',
-    b'a',
-    b'b',
-    b'c',
-    b'd',
-    b'e',
-    b'f',
+    b'0', b'1', b'2', b'3', b'4', b'5', b'6', b'7', b'8', b'9', b'a', b'b', b'c', b'd', b'e', b'f',
 ];
 
 // A number of 64 bits has at most so many digits.
 const DECIMAL_ROOM: usize = 20;
 
 fn digit(n: usize) -> u8
-    requires { ⌜ n < 16 ⌝ }
-    ensures { λ r. ⌜ r ≡ digitOf n ⌝ }
+    requires { n < 16 }
+    ensures { result ≡ digitOf n }
 {
     DIGITS[n]
 }
@@ -70,16 +42,16 @@ fn digit(n: usize) -> u8
 // Each writer below puts its bytes into out from the place at on, and answers the place after them.
 
 fn put_newline(out: &mut [u8], at: usize) -> usize
-    requires { ⌜ at < length (now out) ⌝ }
-    ensures { λ r. ⌜ Put (now (out .entry)) at newline r (now (out .exit)) ⌝ }
+    requires { at < length out.old }
+    ensures { Put out.old at newline result out.new }
 {
     out[at] = b'\n';
     at + 1
 }
 
 fn put_hex_byte(out: &mut [u8], at: usize, b: u8) -> usize
-    requires { ⌜ at + 2 ≤ length (now out) ⌝ }
-    ensures { λ r. ⌜ Put (now (out .entry)) at (hexOf (b ∷ [])) r (now (out .exit)) ⌝ }
+    requires { at + 2 ≤ length out.old }
+    ensures { Put out.old at (hexOf (b ∷ [])) result out.new }
 {
     let n = b as usize;
     out[at] = digit(n / 16);
@@ -88,8 +60,8 @@ fn put_hex_byte(out: &mut [u8], at: usize, b: u8) -> usize
 }
 
 fn put_hex(out: &mut [u8], at: usize, bytes: &[u8]) -> usize
-    requires { ⌜ at + 2 * length (now bytes) ≤ length (now out) ⌝ }
-    ensures { λ r. ⌜ Put (now (out .entry)) at (hexOf (now (bytes .entry))) r (now (out .exit)) ⌝ }
+    requires { at + 2 * length bytes.now ≤ length out.old }
+    ensures { Put out.old at (hexOf bytes.now) result out.new }
 {
     let mut j = at;
     let mut i = 0;
@@ -102,8 +74,8 @@ fn put_hex(out: &mut [u8], at: usize, bytes: &[u8]) -> usize
 
 // The digits are made from the last one on, until one is left.
 fn put_decimal(out: &mut [u8], at: usize, n: usize) -> usize
-    requires { ⌜ at + length (decimalOf n) ≤ length (now out) ⌝ }
-    ensures { λ r. ⌜ Put (now (out .entry)) at (decimalOf n) r (now (out .exit)) ⌝ }
+    requires { at + length (decimalOf n) ≤ length out.old }
+    ensures { Put out.old at (decimalOf n) result out.new }
 {
     let mut digits = [0u8; DECIMAL_ROOM];
     let mut first = DECIMAL_ROOM - 1;
@@ -126,9 +98,9 @@ fn put_hex_line(
     start: usize,
     end: usize,
 ) -> usize
-    requires { ⌜ (start ≤ end) × (end ≤ length (now frame)) ⌝ }
-    requires { ⌜ at + length (now word) + 2 * (end - start) < length (now out) ⌝ }
-    ensures { λ r. ⌜ Put (now (out .entry)) at (hexLine (now (word .entry)) (part start (end - start) (now (frame .entry)))) r (now (out .exit)) ⌝ }
+    requires start_le_end { (start ≤ end) × (end ≤ length frame.now) }
+    requires start_in_bounds { at + length word.now + 2 * (end - start) < length out.old }
+    ensures { Put out.old at (hexLine word.now (part start (end - start) frame.now)) result out.new }
 {
     let j = base::storing::put(out, at, word);
     let k = put_hex(out, j, &frame[start..end]);
@@ -136,16 +108,16 @@ fn put_hex_line(
 }
 
 fn put_word_number(out: &mut [u8], at: usize, word: &[u8], n: usize) -> usize
-    requires { ⌜ at + length (now word ++ decimalOf n) ≤ length (now out) ⌝ }
-    ensures { λ r. ⌜ Put (now (out .entry)) at (now (word .entry) ++ decimalOf n) r (now (out .exit)) ⌝ }
+    requires { at + length (word.now ++ decimalOf n) ≤ length out.old }
+    ensures { Put out.old at (word.now ++ decimalOf n) result out.new }
 {
     let j = base::storing::put(out, at, word);
     put_decimal(out, j, n)
 }
 
 fn put_number_line(out: &mut [u8], at: usize, word: &[u8], n: usize) -> usize
-    requires { ⌜ at + length (numberLine (now word) n) ≤ length (now out) ⌝ }
-    ensures { λ r. ⌜ Put (now (out .entry)) at (numberLine (now (word .entry)) n) r (now (out .exit)) ⌝ }
+    requires { at + length (numberLine word.now n) ≤ length out.old }
+    ensures { Put out.old at (numberLine word.now n) result out.new }
 {
     let j = put_word_number(out, at, word, n);
     put_newline(out, j)
@@ -159,8 +131,8 @@ fn put_pair_line(
     between: &[u8],
     n: usize,
 ) -> usize
-    requires { ⌜ at + length (pairLine (now word) m (now between) n) ≤ length (now out) ⌝ }
-    ensures { λ r. ⌜ Put (now (out .entry)) at (pairLine (now (word .entry)) m (now (between .entry)) n) r (now (out .exit)) ⌝ }
+    requires { at + length (pairLine word.now m between.now n) ≤ length out.old }
+    ensures { Put out.old at (pairLine word.now m between.now n) result out.new }
 {
     let j = put_word_number(out, at, word, m);
     put_number_line(out, j, between, n)
@@ -168,8 +140,8 @@ fn put_pair_line(
 
 // The first line of every text but a refusal's, at the start of out.
 fn put_type_line(out: &mut [u8], mtype: u8) -> usize
-    requires { ⌜ 128 ≤ length (now out) ⌝ }
-    ensures { λ r. ⌜ Put (now (out .entry)) 0 (numberLine typeWord mtype) r (now (out .exit)) ⌝ }
+    requires { 128 ≤ length out.old }
+    ensures { Put out.old 0 (numberLine typeWord mtype) result out.new }
 {
     put_number_line(out, 0, b"type ", wide(mtype))
 }
@@ -177,8 +149,8 @@ fn put_type_line(out: &mut [u8], mtype: u8) -> usize
 // The lines of a data frame that say `none` where there is nothing.
 
 fn put_port_line(out: &mut [u8], at: usize, port: FPort) -> usize
-    requires { ⌜ at + 11 ≤ length (now out) ⌝ }
-    ensures { λ r. ⌜ Put (now (out .entry)) at (portLine port) r (now (out .exit)) ⌝ }
+    requires { at + 11 ≤ length out.old }
+    ensures { Put out.old at (portLine port) result out.new }
 {
     match port {
         FPort::Absent => base::storing::put(out, at, b"port none\n"),
@@ -187,18 +159,18 @@ fn put_port_line(out: &mut [u8], at: usize, port: FPort) -> usize
 }
 
 fn put_place_line(out: &mut [u8], at: usize, start: usize, end: usize) -> usize
-    requires { ⌜ start ≤ end ⌝ }
-    requires { ⌜ end < 100000 ⌝ }
-    requires { ⌜ at + 20 ≤ length (now out) ⌝ }
-    ensures { λ r. ⌜ Put (now (out .entry)) at (placeLine start end) r (now (out .exit)) ⌝ }
+    requires start_le_end { start ≤ end }
+    requires end_bound { end < 100000 }
+    requires at_in_bounds { at + 20 ≤ length out.old }
+    ensures { Put out.old at (placeLine start end) result out.new }
 {
     put_pair_line(out, at, b"payload ", start, b" ", end - start)
 }
 
 fn put_payload_line(out: &mut [u8], at: usize, payload: FrmPayload) -> usize
-    requires { ⌜ Spans payload ⌝ }
-    requires { ⌜ at + 20 ≤ length (now out) ⌝ }
-    ensures { λ r. ⌜ Put (now (out .entry)) at (payloadLine payload) r (now (out .exit)) ⌝ }
+    requires spans { Spans payload }
+    requires at_in_bounds { at + 20 ≤ length out.old }
+    ensures { Put out.old at (payloadLine payload) result out.new }
 {
     match payload {
         FrmPayload::Nothing => base::storing::put(out, at, b"payload none\n"),
@@ -208,17 +180,17 @@ fn put_payload_line(out: &mut [u8], at: usize, payload: FrmPayload) -> usize
 }
 
 fn wide_fcnt(n: u16) -> usize
-    ensures { λ r. ⌜ (r ≡ n) × (r < 65536) ⌝ }
+    ensures { (result ≡ n) × (result < 65536) }
 {
     n as usize
 }
 
 // The first four lines of a data frame, at the start of out.
 fn put_header(out: &mut [u8], frame: &[u8], d: DataFrame) -> usize
-    requires { ⌜ IsData (now frame) ⌝ }
-    requires { ⌜ d ≡ dataOf (now frame) ⌝ }
-    requires { ⌜ 128 ≤ length (now out) ⌝ }
-    ensures { λ r. ⌜ Put (now (out .entry)) 0 (headerText (now (frame .entry)) d) r (now (out .exit)) ⌝ }
+    requires fact { IsData frame.now }
+    requires d_value { d ≡ data_of frame.now }
+    requires in_bounds { 128 ≤ length out.old }
+    ensures { Put out.old 0 (headerText frame.now d) result out.new }
 {
     let j = put_type_line(out, d.mtype);
     let k = put_hex_line(out, j, b"addr ", frame, DEV_ADDR_AT, FCTRL_AT);
@@ -228,10 +200,10 @@ fn put_header(out: &mut [u8], frame: &[u8], d: DataFrame) -> usize
 
 // The other four.
 fn put_rest(out: &mut [u8], at: usize, frame: &[u8], d: DataFrame) -> usize
-    requires { ⌜ IsData (now frame) ⌝ }
-    requires { ⌜ d ≡ dataOf (now frame) ⌝ }
-    requires { ⌜ at + 56 ≤ length (now out) ⌝ }
-    ensures { λ r. ⌜ Put (now (out .entry)) at (restText (now (frame .entry)) d) r (now (out .exit)) ⌝ }
+    requires fact { IsData frame.now }
+    requires d_value { d ≡ data_of frame.now }
+    requires at_in_bounds { at + 56 ≤ length out.old }
+    ensures { Put out.old at (restText frame.now d) result out.new }
 {
     let j = put_number_line(out, at, b"fopts ", d.fopts_end - FOPTS_AT);
     let port = d.port;
@@ -243,10 +215,10 @@ fn put_rest(out: &mut [u8], at: usize, frame: &[u8], d: DataFrame) -> usize
 }
 
 fn put_data(out: &mut [u8], frame: &[u8], d: DataFrame) -> usize
-    requires { ⌜ IsData (now frame) ⌝ }
-    requires { ⌜ d ≡ dataOf (now frame) ⌝ }
-    requires { ⌜ 128 ≤ length (now out) ⌝ }
-    ensures { λ r. ⌜ Put (now (out .entry)) 0 (dataText (now (frame .entry)) d) r (now (out .exit)) ⌝ }
+    requires fact { IsData frame.now }
+    requires d_value { d ≡ data_of frame.now }
+    requires in_bounds { 128 ≤ length out.old }
+    ensures { Put out.old 0 (dataText frame.now d) result out.new }
 {
     let at = put_header(out, frame, d);
     put_rest(out, at, frame, d)
@@ -254,9 +226,9 @@ fn put_data(out: &mut [u8], frame: &[u8], d: DataFrame) -> usize
 
 // AppEUI and DevEUI of a join-request.
 fn put_euis(out: &mut [u8], frame: &[u8]) -> usize
-    requires { ⌜ length (now frame) ≡ 23 ⌝ }
-    requires { ⌜ 128 ≤ length (now out) ⌝ }
-    ensures { λ r. ⌜ Put (now (out .entry)) 0 (euisText (now (frame .entry))) r (now (out .exit)) ⌝ }
+    requires frame_len { length frame.now ≡ 23 }
+    requires in_bounds { 128 ≤ length out.old }
+    ensures { Put out.old 0 (euisText frame.now) result out.new }
 {
     let j = put_type_line(out, 0);
     let k = put_hex_line(out, j, b"app ", frame, APP_EUI_AT, DEV_EUI_AT);
@@ -265,9 +237,9 @@ fn put_euis(out: &mut [u8], frame: &[u8]) -> usize
 
 // Then DevNonce and MIC.
 fn put_join_request(out: &mut [u8], frame: &[u8]) -> usize
-    requires { ⌜ length (now frame) ≡ 23 ⌝ }
-    requires { ⌜ 128 ≤ length (now out) ⌝ }
-    ensures { λ r. ⌜ Put (now (out .entry)) 0 (joinRequestText (now (frame .entry))) r (now (out .exit)) ⌝ }
+    requires frame_len { length frame.now ≡ 23 }
+    requires in_bounds { 128 ≤ length out.old }
+    ensures { Put out.old 0 (joinRequestText frame.now) result out.new }
 {
     let j = put_euis(out, frame);
     let k = put_hex_line(out, j, b"nonce ", frame, DEV_NONCE_AT, REQUEST_MIC_AT);
@@ -275,17 +247,17 @@ fn put_join_request(out: &mut [u8], frame: &[u8]) -> usize
 }
 
 fn put_join_accept(out: &mut [u8], n: usize) -> usize
-    requires { ⌜ n < 100000 ⌝ }
-    requires { ⌜ 128 ≤ length (now out) ⌝ }
-    ensures { λ r. ⌜ Put (now (out .entry)) 0 (joinAcceptText n) r (now (out .exit)) ⌝ }
+    requires n_bound { n < 100000 }
+    requires in_bounds { 128 ≤ length out.old }
+    ensures { Put out.old 0 (joinAcceptText n) result out.new }
 {
     let j = put_type_line(out, 1);
     put_number_line(out, j, b"length ", n)
 }
 
 fn put_refusal(out: &mut [u8], refusal: Refusal) -> usize
-    requires { ⌜ 128 ≤ length (now out) ⌝ }
-    ensures { λ r. ⌜ Put (now (out .entry)) 0 (refusalText refusal) r (now (out .exit)) ⌝ }
+    requires { 128 ≤ length out.old }
+    ensures { Put out.old 0 (refusalText refusal) result out.new }
 {
     put_pair_line(
         out,
@@ -299,9 +271,9 @@ fn put_refusal(out: &mut [u8], refusal: Refusal) -> usize
 
 // By what reading the frame gave.
 fn put_text(out: &mut [u8], frame: &[u8], reading: Reading) -> usize
-    requires { ⌜ reading ≡ readOf (now frame) ⌝ }
-    requires { ⌜ 128 ≤ length (now out) ⌝ }
-    ensures { λ r. ⌜ Put (now (out .entry)) 0 (textOf (now (frame .entry))) r (now (out .exit)) ⌝ }
+    requires reading_value { reading ≡ read_of frame.now }
+    requires in_bounds { 128 ≤ length out.old }
+    ensures { Put out.old 0 (text_of frame.now) result out.new }
 {
     match reading {
         Reading::JoinRequest => put_join_request(out, frame),
@@ -313,8 +285,8 @@ fn put_text(out: &mut [u8], frame: &[u8], reading: Reading) -> usize
 
 // An input that is too long is not read: only its length counts.
 fn put_input(out: &mut [u8], start: &[u8], count: usize) -> usize
-    requires { ⌜ 128 ≤ length (now out) ⌝ }
-    ensures { λ r. ⌜ Put (now (out .entry)) 0 (textOfInput (now (start .entry)) count) r (now (out .exit)) ⌝ }
+    requires { 128 ≤ length out.old }
+    ensures { Put out.old 0 (textOfInput start.now count) result out.new }
 {
     if count > PHY_PAYLOAD_MAX_LEN {
         return put_refusal(
@@ -332,8 +304,8 @@ fn put_input(out: &mut [u8], start: &[u8], count: usize) -> usize
 // Writes the text of an input of count bytes to the start of out and answers its length. Up to 255 bytes the input is start; of
 // a longer one only the count is shown. An out that is shorter than TEXT_ROOM is refused by 7 and stays as it is.
 pub fn describe_input(start: &[u8], count: usize, out: &mut [u8]) -> Description
-    ensures { λ r. ⌜ r ≡ describedOf (textOfInput (now (start .entry)) count) (now (out .entry)) ⌝ }
-    ensures { λ r. ⌜ now (out .exit) ≡ describedIn (textOfInput (now (start .entry)) count) (now (out .entry)) ⌝ }
+    ensures value { result ≡ describedOf (textOfInput start.now count) out.old }
+    ensures out_after { out.new ≡ describedIn (textOfInput start.now count) out.old }
 {
     if out.len() < TEXT_ROOM {
         return Description {
@@ -356,8 +328,8 @@ pub fn describe_input(start: &[u8], count: usize, out: &mut [u8]) -> Description
 
 // The text of a frame that is there as a whole, in the same way.
 pub fn describe(frame: &[u8], out: &mut [u8]) -> Description
-    ensures { λ r. ⌜ r ≡ describedOf (textOf (now (frame .entry))) (now (out .entry)) ⌝ }
-    ensures { λ r. ⌜ now (out .exit) ≡ describedIn (textOf (now (frame .entry))) (now (out .entry)) ⌝ }
+    ensures value { result ≡ describedOf (text_of frame.now) out.old }
+    ensures out_after { out.new ≡ describedIn (text_of frame.now) out.old }
 {
     describe_input(frame, frame.len(), out)
 }

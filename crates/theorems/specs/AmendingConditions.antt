@@ -1,16 +1,13 @@
 -- When opening for amendments, amending and taking a frame out refuse, in the words of docs/RULES.md, Refusals: a proposition
 -- for each condition, and the order in which each call tests them.
 -- Assumes nothing.
-use mathlib.Core.Path.{_≡_}
-use mathlib.Core.List.{List, [], _∷_}
-use Prim.Native.Nat.{ℕ, _/_, _%_, _≤_, _<_}
-use lib.ListN.{length}
-use Rattle·base.specs.Bytes.{at}
-use Rattle·frame.specs.Layout.{fcnt, payload}
-use Rattle·amend.specs.Amending.{payloadLength}
-use Rattle·amend.specs.declared.amending.Open.{Open}
-use Rattle·theorems·specs.specs.Exactly.{Condition, _when_, _unless_}
-use Rattle·theorems·specs.specs.OpeningConditions.{RightDataMic}
+use Rattle.std.specs.Prelude.{◌≡◌, List, [], ◌∷◌, ℕ, ◌/◌, ◌%◌, ◌≤◌, ◌<◌, length}
+use Rattle.base.specs.Bytes.{at}
+use Rattle.frame.specs.Layout.{fcnt, payload}
+use Rattle.amend.specs.Amending.{payloadLength}
+use Rattle.amend.specs.declared.amending.Open.{Open}
+use Rattle.theorems.specs.Exactly.{Condition, ◌when◌, ◌unless◌}
+use Rattle.theorems.specs.OpeningConditions.{RightDataMic}
 
 -- an amendment of the list, which is offset * 256 + value, has an offset that is not below the payload's length
 pub data Outside (count : ℕ) (list : List ℕ) : Type 0 where
@@ -40,4 +37,4 @@ frameConditions nwk counter f list = openThen nwk counter f (15 when Outside (le
 
 -- taking the frame out into so many bytes
 abbrev pub takenConditions : Open → ℕ → List Condition
-takenConditions s room = 7 unless (s .length ≤ room) ∷ []
+takenConditions s room = 7 unless (s.length ≤ room) ∷ []

@@ -1,13 +1,12 @@
 -- The uses of a number that the functions for C add (docs/RULES.md, Refusals, From C), and number and place in an answer to C.
 -- Assumes nothing.
-use mathlib.Core.List.{List, [], _∷_}
-use Prim.Native.Nat.{ℕ, _/_, _%_, _<_}
-use Rattle·frame.specs.Refusals.{refusal}
-use Rattle·frame.specs.declared.refusals.Refusal.{Refusal}
-use Rattle·frame_build.specs.declared.creator.data_frame.DataParts.{DataParts}
-use Rattle·frame_c.specs.CAnswers.{orShort}
-use Rattle·theorems·specs.specs.Exactly.{Condition, _when_}
-use Rattle·theorems·specs.specs.BuildingConditions.{dataConditions}
+use Rattle.std.specs.Prelude.{List, [], ◌∷◌, ℕ, ◌/◌, ◌%◌, ◌<◌}
+use Rattle.frame.specs.Refusals.{refusal}
+use Rattle.frame.specs.declared.refusals.Refusal.{Refusal}
+use Rattle.frame_build.specs.declared.creator.data_frame.DataParts.{DataParts}
+use Rattle.frame_c.specs.CAnswers.{orShort}
+use Rattle.theorems.specs.Exactly.{Condition, ◌when◌}
+use Rattle.theorems.specs.BuildingConditions.{dataConditions}
 
 -- ahead of every other test of building a data frame: 4 where its type is that of a join message, 0 or 1, and 3 above 5
 abbrev pub kindConditions : ℕ → DataParts → List ℕ → List ℕ → ℕ → List Condition
@@ -19,7 +18,7 @@ roomConditions count room = 7 when (room < count) ∷ []
 
 -- the refusal of a call that stores so many bytes, beside which the proved call gives r
 abbrev pub storedRefusal : Refusal → ℕ → ℕ → Refusal
-storedRefusal r count room = refusal (orShort (r .number) count room) (r .place)
+storedRefusal r count room = refusal (orShort r.number count room) r.place
 
 -- the number in an answer to C: its low byte
 abbrev pub numberInC : ℕ → ℕ

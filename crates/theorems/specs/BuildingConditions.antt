@@ -1,22 +1,18 @@
 -- When building refuses, in the words of docs/RULES.md, Refusals: a proposition for each condition, and the order in which each
 -- call tests them.
 -- Assumes nothing.
-use mathlib.Core.Path.{_≡_}
-use mathlib.Core.Bool.{Bool, true, false}
-use mathlib.Core.List.{List, [], _∷_}
-use Prim.Native.Nat.{ℕ, _%_, _<_}
-use lib.ListN.{length}
-use Rattle·base.specs.Bytes.{at}
-use Rattle·frame.specs.Refusals.{refused}
-use Rattle·frame.specs.declared.refusals.Refusal.{Refusal}
-use Rattle·frame.specs.declared.parser.FPort.{FPort}
-use Rattle·frame.specs.declared.parser.FPort.the-variants.{Absent, Port}
-use Rattle·frame_build.specs.DataBuilding.{dataLength}
-use Rattle·frame_security.specs.declared.sealing.Built.{Built}
-use Rattle·frame_security.specs.declared.sealing.Built.the-variants.{Frame, Refused}
-use Rattle·frame_build.specs.declared.creator.data_frame.DataParts.{DataParts}
-use Rattle·frame_build.specs.declared.creator.join.JoinAcceptParts.{JoinAcceptParts}
-use Rattle·theorems·specs.specs.Exactly.{Exactly, Condition, _when_, _unless_, Due, NotOwn}
+use Rattle.std.specs.Prelude.{◌≡◌, Bool, true, false, List, [], ◌∷◌, ℕ, ◌%◌, ◌<◌, length}
+use Rattle.base.specs.Bytes.{at}
+use Rattle.frame.specs.Refusals.{refused}
+use Rattle.frame.specs.declared.refusals.Refusal.{Refusal}
+use Rattle.frame.specs.declared.parser.FPort.{FPort}
+use Rattle.frame.specs.declared.parser.FPort.TheVariants.{Absent, Port}
+use Rattle.frame_build.specs.DataBuilding.{dataLength}
+use Rattle.frame_security.specs.declared.sealing.Built.{Built}
+use Rattle.frame_security.specs.declared.sealing.Built.TheVariants.{Frame, Refused}
+use Rattle.frame_build.specs.declared.creator.data_frame.DataParts.{DataParts}
+use Rattle.frame_build.specs.declared.creator.join.JoinAcceptParts.{JoinAcceptParts}
+use Rattle.theorems.specs.Exactly.{Exactly, Condition, ◌when◌, ◌unless◌, Due, NotOwn}
 
 -- ---- data frames
 
@@ -41,10 +37,10 @@ PayloadWithoutPort port body = (port ≡ Absent) × (0 < length body)
 abbrev pub dataConditions : DataParts → List ℕ → List ℕ → ℕ → List Condition
 dataConditions d commands body room =
     7 when (room < 255)
-    ∷ 13 unless (d .fctrl % 16 ≡ 0)
-    ∷ 9 when TooManyCommands (d .port) commands
-    ∷ 10 when PayloadOnPort0 (d .port) body
-    ∷ 11 when PayloadWithoutPort (d .port) body
+    ∷ 13 unless (d.fctrl % 16 ≡ 0)
+    ∷ 9 when TooManyCommands d.port commands
+    ∷ 10 when PayloadOnPort0 d.port body
+    ∷ 11 when PayloadWithoutPort d.port body
     ∷ 12 when (255 < dataLength d commands body)
     ∷ []
 
@@ -69,8 +65,8 @@ pub data NoRoom (listed : Bool) (room : ℕ) : Type 0 where
 
 abbrev pub acceptConditions : JoinAcceptParts → List ℕ → ℕ → List Condition
 acceptConditions j channels room =
-    8 when WrongList (j .«with_c_f_list») channels
-    ∷ 7 when NoRoom (j .«with_c_f_list») room
+    8 when WrongList j.with_c_f_list channels
+    ∷ 7 when NoRoom j.with_c_f_list room
     ∷ []
 
 -- ---- what a building answers
@@ -82,4 +78,4 @@ pub record Answers (cs : List Condition) (long : ℕ) (r : Built) : Type 0 where
   -- the frame's length exactly where no condition holds
   pub builds : Exactly (r ≡ Frame long) (Due cs 0)
   -- and no other refusal
-  pub no-other : (q : Refusal) → NotOwn cs q → r ≡ Refused q → ⊥
+  pub no_other : (q : Refusal) → NotOwn cs q → r ≡ Refused q → ⊥

@@ -1,19 +1,14 @@
 -- "Reading" in the order of a call's tests (docs/RULES.md, Refusals): a frame that the reader refuses keeps the reader's refusal,
 -- number and place, and a frame that it accepts but that is of another type than the call needs gives 4 at place 0.
 -- Assumes nothing.
-use mathlib.Core.Path.{_≡_}
-use mathlib.Core.Bool.{Bool, true, not}
-use mathlib.Core.List.{List}
-use Prim.Native.Nat.{ℕ}
-use lib.Dec.{T, eqb}
-use lib.ListN.{length}
-use Rattle·base.specs.Bytes.{pick}
-use Rattle·frame.specs.Conditions.{IsJoinRequest, IsJoinAccept, IsData, Passes}
-use Rattle·frame.specs.Reading.{readOf}
-use Rattle·frame.specs.Refusals.{refused}
-use Rattle·frame.specs.declared.refusals.Refusal.{Refusal}
-use Rattle·frame.specs.declared.parser.Reading.the-variants.{Refused}
-use Rattle·theorems·specs.specs.Exactly.{Exactly, Condition, Due, NotOwn}
+use Rattle.std.specs.Prelude.{◌≡◌, Bool, true, not, List, ℕ, T, eqb, length}
+use Rattle.base.specs.Bytes.{pick}
+use Rattle.frame.specs.Conditions.{IsJoinRequest, IsJoinAccept, IsData, Passes}
+use Rattle.frame.specs.Reading.{read_of}
+use Rattle.frame.specs.Refusals.{refused}
+use Rattle.frame.specs.declared.refusals.Refusal.{Refusal}
+use Rattle.frame.specs.declared.parser.Reading.TheVariants.{Refused}
+use Rattle.theorems.specs.Exactly.{Exactly, Condition, Due, NotOwn}
 
 -- the frame that a call needs
 pub data Needs : Type 0 where
@@ -29,7 +24,7 @@ Is data-frame f = IsData f
 
 -- reading gives the refusal r
 pub data ByReading (k : Needs) (f : List ℕ) (r : Refusal) : Type 0 where
-  keeps : readOf f ≡ Refused r → ByReading k f r
+  keeps : read_of f ≡ Refused r → ByReading k f r
   other : Passes f → (Is k f → ⊥) → r ≡ refused 4 → ByReading k f r
 
 -- the numbers that reading may give

@@ -1,29 +1,23 @@
 -- When reading and writing a MAC command refuse, in the words of docs/RULES.md, Refusals: a proposition for each condition, the
 -- order in which each call tests them, and what each answers by it.
 -- Assumes nothing.
-use mathlib.Core.Path.{_≡_}
-use mathlib.Core.Bool.{Bool, true}
-use mathlib.Core.List.{List, [], _∷_}
-use Prim.Native.Nat.{ℕ, _+_, _^_, _≤_, _<_}
-use lib.Dec.{eqb}
-use lib.IntN.{ℤ, pos, negsuc}
-use lib.ListN.{length}
-use lib.Signed.{ltZ}
-use Rattle·base.specs.Bytes.{pick, at, part}
-use Rattle·frame.specs.Reading.{dataOf}
-use Rattle·frame.specs.Refusals.{refusal, refused, notRefused}
-use Rattle·frame.specs.declared.refusals.Refusal.{Refusal}
-use Rattle·mac_commands.specs.Commands.{commandOf}
-use Rattle·mac_commands.specs.InFrame.{listsOf}
-use Rattle·mac_commands.specs.Layout.{countOf, widthAt, fieldsOf, lowFirst, row, rowOf, sizeOf}
-use Rattle·mac_commands.specs.declared.in_frame.InFrame.{InFrame}
-use Rattle·mac_commands.specs.declared.in_frame.InFrame.the-variants.{Lists, Refused as NoLists}
-use Rattle·mac_commands.specs.declared.maccommands.Command.{Command}
-use Rattle·mac_commands.specs.declared.maccommands.Step.{Step}
-use Rattle·mac_commands.specs.declared.maccommands.Step.the-variants.{Found, End, Refused}
-use Rattle·mac_commands.specs.declared.maccommandcreator.Written.{Written}
-use Rattle·mac_commands.specs.declared.maccommandcreator.Written.the-variants.{Upto, Refused as Unwritten}
-use Rattle·theorems·specs.specs.Exactly.{Exactly, Condition, _when_, Due, NotOwn}
+use Rattle.std.specs.Prelude.{◌≡◌, Bool, true, List, [], ◌∷◌, ℕ, ◌+◌, ◌^◌, ◌≤◌, ◌<◌, eqb, ℤ, pos, negsuc, length}
+use Rattle.std.specs.Int.Signed.{lt_z}
+use Rattle.base.specs.Bytes.{pick, at, part}
+use Rattle.frame.specs.Reading.{data_of}
+use Rattle.frame.specs.Refusals.{refusal, refused, notRefused}
+use Rattle.frame.specs.declared.refusals.Refusal.{Refusal}
+use Rattle.mac_commands.specs.Commands.{commandOf}
+use Rattle.mac_commands.specs.InFrame.{lists_of}
+use Rattle.mac_commands.specs.Layout.{countOf, width_at, fields_of, low_first, row, row_of, size_of}
+use Rattle.mac_commands.specs.declared.in_frame.InFrame.{InFrame}
+use Rattle.mac_commands.specs.declared.in_frame.InFrame.TheVariants.{Lists, Refused as NoLists}
+use Rattle.mac_commands.specs.declared.maccommands.Command.{Command}
+use Rattle.mac_commands.specs.declared.maccommands.Step.{Step}
+use Rattle.mac_commands.specs.declared.maccommands.Step.TheVariants.{Found, End, Refused}
+use Rattle.mac_commands.specs.declared.maccommandcreator.Written.{Written}
+use Rattle.mac_commands.specs.declared.maccommandcreator.Written.TheVariants.{Upto, Refused as Unwritten}
+use Rattle.theorems.specs.Exactly.{Exactly, Condition, ◌when◌, Due, NotOwn}
 
 -- ---- identifiers: 2 to 10 are of the family, every other is unknown
 
@@ -38,8 +32,8 @@ pub record Known (id : ℕ) : Type 0 where
 -- ---- one step of reading, of the list s that goes up or down, at place i
 
 -- how many bytes follow the identifier, by its layout
-abbrev pub sizeAt : Bool → List ℕ → ℕ → ℕ
-sizeAt up s i = sizeOf (rowOf up (at s i))
+abbrev pub size_at : Bool → List ℕ → ℕ → ℕ
+size_at up s i = size_of (row_of up (at s i))
 
 -- 16: there is an identifier, and it is unknown
 pub record UnknownAt (s : List ℕ) (i : ℕ) : Type 0 where
@@ -50,41 +44,41 @@ pub record UnknownAt (s : List ℕ) (i : ℕ) : Type 0 where
 pub record CutShortAt (up : Bool) (s : List ℕ) (i : ℕ) : Type 0 where
   pub inside : i < length s
   pub known : Known (at s i)
-  pub short : length s < i + 1 + sizeAt up s i
+  pub short : length s < i + 1 + size_at up s i
 
 -- a command: there is one of the family, and all bytes of its layout follow it
 pub record WholeAt (up : Bool) (s : List ℕ) (i : ℕ) : Type 0 where
   pub inside : i < length s
   pub known : Known (at s i)
-  pub room : i + 1 + sizeAt up s i ≤ length s
+  pub room : i + 1 + size_at up s i ≤ length s
 
 -- which it is
 abbrev pub commandAt : Bool → List ℕ → ℕ → Command
 commandAt up s i =
-    commandOf (rowOf up (at s i)) (fieldsOf (row (rowOf up (at s i))) (lowFirst (part (i + 1) (sizeAt up s i) s)))
+    commandOf (row_of up (at s i)) (fields_of (row (row_of up (at s i))) (low_first (part (i + 1) (size_at up s i) s)))
 
 -- x is what a step answers
 pub record Steps (up : Bool) (s : List ℕ) (i : ℕ) (x : Step) : Type 0 where
   -- 16 and 17 exactly where they are due, and at no other place than i
   pub unknown : (p : ℕ) → Exactly (x ≡ Refused (refusal 16 p)) ((p ≡ i) × UnknownAt s i)
-  pub cut-short : (p : ℕ) → Exactly (x ≡ Refused (refusal 17 p)) ((p ≡ i) × CutShortAt up s i)
+  pub cut_short : (p : ℕ) → Exactly (x ≡ Refused (refusal 17 p)) ((p ≡ i) × CutShortAt up s i)
   -- and no other number
-  pub no-other : (r : Refusal) → (r .number ≡ 16 → ⊥) → (r .number ≡ 17 → ⊥) → x ≡ Refused r → ⊥
+  pub no_other : (r : Refusal) → (r.number ≡ 16 → ⊥) → (r.number ≡ 17 → ⊥) → x ≡ Refused r → ⊥
   -- the end exactly at or past the length
   pub ends : Exactly (x ≡ End) (length s ≤ i)
   -- a command exactly where it is whole, this one alone, and the place past it
   pub finds : (c : Command) (n : ℕ)
-      → Exactly (x ≡ Found c n) (WholeAt up s i × ((c ≡ commandAt up s i) × (n ≡ i + 1 + sizeAt up s i)))
+      → Exactly (x ≡ Found c n) (WholeAt up s i × ((c ≡ commandAt up s i) × (n ≡ i + 1 + size_at up s i)))
 
 -- ---- writing values xs of the row r into n bytes, from place i on
 
 -- 18: a field of the row has a value that its bits cannot hold
 pub data Unfit (r : ℕ) (xs : List ℕ) : Type 0 where
-  unfit : (k : ℕ) → k < countOf (row r) → 2 ^ widthAt (row r) k ≤ at xs k → Unfit r xs
+  unfit : (k : ℕ) → k < countOf (row r) → 2 ^ width_at (row r) k ≤ at xs k → Unfit r xs
 
 -- 7: there is no room for the identifier and the bytes behind it
 abbrev pub NoRoom : ℕ → ℕ → ℕ → Type 0
-NoRoom r n i = n < i + (1 + sizeOf r)
+NoRoom r n i = n < i + (1 + size_of r)
 
 -- a command
 abbrev pub rowConditions : ℕ → List ℕ → ℕ → ℕ → List Condition
@@ -92,7 +86,7 @@ rowConditions r xs n i = 18 when Unfit r xs ∷ 7 when NoRoom r n i ∷ []
 
 -- values by direction and identifier, of which 16 goes ahead
 abbrev pub fieldConditions : Bool → ℕ → List ℕ → ℕ → ℕ → List Condition
-fieldConditions up id xs n i = 16 when Unknown id ∷ rowConditions (rowOf up id) xs n i
+fieldConditions up id xs n i = 16 when Unknown id ∷ rowConditions (row_of up id) xs n i
 
 -- w is what a writing answers that goes by these conditions and ends at place next
 pub record Writes (cs : List Condition) (next : ℕ) (w : Written) : Type 0 where
@@ -101,7 +95,7 @@ pub record Writes (cs : List Condition) (next : ℕ) (w : Written) : Type 0 wher
   -- the place past the command exactly where no condition holds, and no other place
   pub writes : (m : ℕ) → Exactly (w ≡ Upto m) ((m ≡ next) × Due cs 0)
   -- and no other refusal
-  pub no-other : (q : Refusal) → NotOwn cs q → w ≡ Unwritten q → ⊥
+  pub no_other : (q : Refusal) → NotOwn cs q → w ≡ Unwritten q → ⊥
 
 -- its refusal, which is none where the command was written
 abbrev pub writtenRefusal : Written → Refusal
@@ -109,18 +103,18 @@ writtenRefusal (Upto m) = notRefused
 writtenRefusal (Unwritten q) = q
 
 -- what it answers by its own number, 0 where it writes
-abbrev pub writtenOf : ℕ → ℕ → Written
-writtenOf next n = pick (eqb n 0) (Upto next) (Unwritten (refused n))
+abbrev pub written_of : ℕ → ℕ → Written
+written_of next n = pick (eqb n 0) (Upto next) (Unwritten (refused n))
 
 -- 18 of DevStatusAns: the margin is outside -32 to 31
 pub data OutsideMargin (margin : ℤ) : Type 0 where
-  under : ltZ margin (negsuc 31) ≡ true → OutsideMargin margin
-  over : ltZ (pos 31) margin ≡ true → OutsideMargin margin
+  under : lt_z margin (negsuc 31) ≡ true → OutsideMargin margin
+  over : lt_z (pos 31) margin ≡ true → OutsideMargin margin
 
 -- ---- the lists of commands of the frame f: what is answered by a number, 0 where f is a data frame
 
 abbrev pub listsAnswer : List ℕ → ℕ → InFrame
-listsAnswer f n = pick (eqb n 0) (Lists (listsOf (dataOf f))) (NoLists (refused n))
+listsAnswer f n = pick (eqb n 0) (Lists (lists_of (data_of f))) (NoLists (refused n))
 
 abbrev pub listsRefusal : InFrame → Refusal
 listsRefusal (Lists l) = notRefused

@@ -1,20 +1,17 @@
 -- What it means that MAC commands read back which were built into a data frame (docs/RULES.md, MAC commands): the calls find them
 -- in FOpts, or on port 0 once the frame is opened, each at its place in the frame, and then the end.
 -- Assumes nothing.
-use mathlib.Core.Path.{_≡_}
-use mathlib.Core.Bool.{Bool, true, false}
-use mathlib.Core.List.{List, []}
-use Prim.Native.Nat.{ℕ}
-use Rattle·frame.specs.declared.parser.FPort.the-variants.{Port}
-use Rattle·frame_opening.specs.FrameOpening.{givenKey, dataOpened}
-use Rattle·frame_build.specs.declared.creator.data_frame.DataParts.{DataParts}
-use Rattle·mac_commands.specs.InFrame.{inFrame, foptsCommands, payloadCommands}
-use Rattle·mac_commands.specs.Lists.{Listed, placed}
-use Rattle·mac_commands.specs.declared.in_frame.CommandLists.{CommandLists}
-use Rattle·mac_commands.specs.declared.in_frame.InFrame.the-variants.{Lists}
-use Rattle·mac_commands.specs.declared.maccommands.Command.{Command}
-use Rattle·mac_commands.specs.declared.maccommands.Step.the-variants.{End}
-use Rattle·theorems·specs.specs.BuildingConditions.{NotPort0}
+use Rattle.std.specs.Prelude.{◌≡◌, Bool, true, false, List, [], ℕ}
+use Rattle.frame.specs.declared.parser.FPort.TheVariants.{Port}
+use Rattle.frame_opening.specs.FrameOpening.{givenKey, dataOpened}
+use Rattle.frame_build.specs.declared.creator.data_frame.DataParts.{DataParts}
+use Rattle.mac_commands.specs.InFrame.{inFrame, foptsCommands, payloadCommands}
+use Rattle.mac_commands.specs.Lists.{Listed, placed}
+use Rattle.mac_commands.specs.declared.in_frame.CommandLists.{CommandLists}
+use Rattle.mac_commands.specs.declared.in_frame.InFrame.TheVariants.{Lists}
+use Rattle.mac_commands.specs.declared.maccommands.Command.{Command}
+use Rattle.mac_commands.specs.declared.maccommands.Step.TheVariants.{End}
+use Rattle.theorems.specs.BuildingConditions.{NotPort0}
 
 -- these commands, one after the other from place i on, and then the end
 abbrev pub listed : ℕ → List Command → Listed
@@ -26,17 +23,17 @@ pub record Holds (f : List ℕ) (inFopts : List Command) (there : Bool) (onPort0
   pub lists : CommandLists
   pub found : inFrame f ≡ Lists lists
   pub fopts : foptsCommands lists f ≡ listed 8 inFopts
-  pub port-0 : lists .«on_port_0» ≡ there
-  pub payload : payloadCommands lists f ≡ listed (lists .«payload_start») onPort0
+  pub port-0 : lists.on_port_0 ≡ there
+  pub payload : payloadCommands lists f ≡ listed lists.payload_start onPort0
 
 -- what opening with both keys leaves of a frame
 abbrev pub openedFrame : List ℕ → List ℕ → ℕ → List ℕ → List ℕ
-openedFrame nwk app counter f = dataOpened (givenKey nwk) (givenKey app) counter f .bytes
+openedFrame nwk app counter f = (dataOpened (givenKey nwk) (givenKey app) counter f).bytes
 
 -- the commands cs were built into the frame f
 pub record CommandsBack (nwk app : List ℕ) (d : DataParts) (cs : List Command) (f : List ℕ) : Type 0 where
   -- where the port is absent or not 0 they are in FOpts, before the frame is opened and after
-  pub in-fopts : NotPort0 (d .port) → Holds f cs false []
-  pub in-fopts-opened : NotPort0 (d .port) → Holds (openedFrame nwk app (d .fcnt) f) cs false []
+  pub in-fopts : NotPort0 d.port → Holds f cs false []
+  pub in-fopts-opened : NotPort0 d.port → Holds (openedFrame nwk app d.fcnt f) cs false []
   -- on port 0 they are the payload of the opened frame, also where there are none
-  pub on-port-0 : d .port ≡ Port 0 → Holds (openedFrame nwk app (d .fcnt) f) [] true cs
+  pub on-port-0 : d.port ≡ Port 0 → Holds (openedFrame nwk app d.fcnt f) [] true cs

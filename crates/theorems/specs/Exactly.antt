@@ -1,13 +1,9 @@
 -- What it says that a call refuses exactly where it is to (docs/RULES.md, Refusals): the two ways of a rule, conditions in the
 -- order of a call's tests, each with its number, and the number that is due, which is that of the first condition that holds.
 -- Assumes nothing.
-use mathlib.Core.Path.{_≡_}
-use mathlib.Core.Bool.{Bool, true, false}
-use mathlib.Core.List.{List, [], _∷_}
-use Prim.Native.Nat.{ℕ}
-use lib.Dec.{eqb}
-use Rattle·frame.specs.Refusals.{refused, notRefused}
-use Rattle·frame.specs.declared.refusals.Refusal.{Refusal}
+use Rattle.std.specs.Prelude.{◌≡◌, Bool, true, false, List, [], ◌∷◌, ℕ, eqb}
+use Rattle.frame.specs.Refusals.{refused, notRefused}
+use Rattle.frame.specs.declared.refusals.Refusal.{Refusal}
 
 -- the two ways of a rule
 pub record Exactly (A B : Type 0) : Type 0 where
@@ -21,11 +17,11 @@ pub record Condition : Type 1 where
   pub fails : Type 0
 
 -- as docs/RULES.md has them: number n is given when P is so, or unless P is so
-infix 70 _when_ _unless_
-abbrev pub _when_ : ℕ → Type 0 → Condition
+infix 70 ◌when◌ ◌unless◌
+abbrev pub ◌when◌ : ℕ → Type 0 → Condition
 n when P = record { number = n; holds = P; fails = P → ⊥ }
 
-abbrev pub _unless_ : ℕ → Type 0 → Condition
+abbrev pub ◌unless◌ : ℕ → Type 0 → Condition
 n unless P = record { number = n; holds = P → ⊥; fails = P }
 
 -- the first where the test holds, the second where it does not
@@ -37,22 +33,22 @@ choice false A B = B
 -- theirs never. So `Due (7 when A ∷ 13 unless B ∷ [])` is A at 7, (A → ⊥) × (B → ⊥) at 13, and (A → ⊥) × (B × (0 ≡ 0)) at 0
 abbrev pub Due : List Condition → ℕ → Type 0
 Due [] n = n ≡ 0
-Due (c ∷ cs) n = choice (eqb (c .number) n) (c .holds) (c .fails × Due cs n)
+Due (c ∷ cs) n = choice (eqb c.number n) c.holds (c.fails × Due cs n)
 
 -- none of them holds
 abbrev pub NoneHolds : List Condition → Type 0
 NoneHolds [] = Unit
-NoneHolds (c ∷ []) = c .fails
-NoneHolds (c ∷ (d ∷ cs)) = c .fails × NoneHolds (d ∷ cs)
+NoneHolds (c ∷ []) = c.fails
+NoneHolds (c ∷ (d ∷ cs)) = c.fails × NoneHolds (d ∷ cs)
 
 -- r is the refusal of none of them, and is one
 abbrev pub NotOwn : List Condition → Refusal → Type 0
 NotOwn [] r = r ≡ notRefused → ⊥
-NotOwn (c ∷ cs) r = (r ≡ refused (c .number) → ⊥) × NotOwn cs r
+NotOwn (c ∷ cs) r = (r ≡ refused c.number → ⊥) × NotOwn cs r
 
 -- x is the refusal of a call that goes by these conditions
 pub record Refuses (cs : List Condition) (x : Refusal) : Type 0 where
   -- each number exactly where it is due
   pub exactly : (n : ℕ) → Exactly (x ≡ refused n) (Due cs n)
   -- and no other refusal
-  pub no-other : (r : Refusal) → NotOwn cs r → x ≡ r → ⊥
+  pub no_other : (r : Refusal) → NotOwn cs r → x ≡ r → ⊥

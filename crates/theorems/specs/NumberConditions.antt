@@ -1,38 +1,34 @@
 -- When writing a MAC command of six numbers refuses, in the words of docs/RULES.md, Refusals, From C: a proposition for each
 -- condition, and their order. The first number is the identifier; the others are the values, of which the margin has a sign.
 -- Assumes nothing.
-use mathlib.Core.Path.{_≡_}
-use mathlib.Core.Bool.{Bool, true, false}
-use mathlib.Core.List.{List, [], _∷_}
-use Prim.Native.Nat.{ℕ, suc, _^_, _<_}
-use lib.IntN.{ℤ, pos}
-use lib.Signed.{ltZ}
-use Rattle·mac_commands.specs.Commands.{fieldsWritten}
-use Rattle·mac_commands.specs.Layout.{countOf, widthAt, row, rowOf}
-use Rattle·mac_commands.specs.declared.maccommandcreator.Written.{Written}
-use Rattle·command_numbers.specs.Numbers.{number, idGiven, valuesGiven}
-use Rattle·theorems·specs.specs.Exactly.{Condition, _when_}
-use Rattle·theorems·specs.specs.CommandConditions.{OutsideMargin, NoRoom}
+use Rattle.std.specs.Prelude.{◌≡◌, Bool, true, false, List, [], ◌∷◌, ℕ, suc, ◌^◌, ◌<◌, ℤ, pos}
+use Rattle.std.specs.Int.Signed.{lt_z}
+use Rattle.mac_commands.specs.Commands.{fieldsWritten}
+use Rattle.mac_commands.specs.Layout.{countOf, width_at, row, row_of}
+use Rattle.mac_commands.specs.declared.maccommandcreator.Written.{Written}
+use Rattle.command_numbers.specs.Numbers.{number, idGiven, valuesGiven}
+use Rattle.theorems.specs.Exactly.{Condition, ◌when◌}
+use Rattle.theorems.specs.CommandConditions.{OutsideMargin, NoRoom}
 
 -- 16: it is outside 2 to 10
 pub data UnknownNumber (z : ℤ) : Type 0 where
-  low : ltZ z (pos 2) ≡ true → UnknownNumber z
-  high : ltZ (pos 10) z ≡ true → UnknownNumber z
+  low : lt_z z (pos 2) ≡ true → UnknownNumber z
+  high : lt_z (pos 10) z ≡ true → UnknownNumber z
 
 -- a field of w bits cannot hold it: it is negative, or 2 to the w or more
 pub data OutsideBits (w : ℕ) (z : ℤ) : Type 0 where
-  negative : ltZ z (pos 0) ≡ true → OutsideBits w z
-  large : ltZ z (pos (2 ^ w)) ≡ false → OutsideBits w z
+  negative : lt_z z (pos 0) ≡ true → OutsideBits w z
+  large : lt_z z (pos (2 ^ w)) ≡ false → OutsideBits w z
 
 -- the row that six numbers name
 abbrev pub rowGiven : Bool → List ℤ → ℕ
-rowGiven up zs = rowOf up (idGiven zs)
+rowGiven up zs = row_of up (idGiven zs)
 
 -- 18: the margin, which is the second value of identifier 6 up, is outside -32 to 31, or another field cannot hold its value
 pub data UnfitNumber (up : Bool) (zs : List ℤ) : Type 0 where
   margin : up ≡ true → number zs 0 ≡ pos 6 → OutsideMargin (number zs 2) → UnfitNumber up zs
   value : (k : ℕ) → k < countOf (row (rowGiven up zs)) → (up ≡ true → number zs 0 ≡ pos 6 → k ≡ 1 → ⊥)
-      → OutsideBits (widthAt (row (rowGiven up zs)) k) (number zs (suc k)) → UnfitNumber up zs
+      → OutsideBits (width_at (row (rowGiven up zs)) k) (number zs (suc k)) → UnfitNumber up zs
 
 abbrev pub numberConditions : Bool → List ℤ → ℕ → ℕ → List Condition
 numberConditions up zs n i =

@@ -1,28 +1,23 @@
 -- When opening refuses past reading, in the words of docs/RULES.md, Refusals: a proposition for each condition, and the order in
 -- which each call tests them.
 -- Assumes nothing.
-use mathlib.Core.Path.{_≡_}
-use mathlib.Core.Bool.{false}
-use mathlib.Core.List.{List, [], _∷_}
-use Prim.Native.Nat.{ℕ, _<_}
-use lib.Dec.{eqb}
-use lib.ListN.{length}
-use Rattle·base.specs.Bytes.{pick}
-use Rattle·frame.specs.Layout.{payload, micOf}
-use Rattle·frame.specs.Reading.{portOf}
-use Rattle·frame.specs.Refusals.{refused}
-use Rattle·frame.specs.declared.refusals.Refusal.{Refusal}
-use Rattle·frame.specs.declared.keys.MaybeKey.{MaybeKey}
-use Rattle·frame.specs.declared.parser.FPort.the-variants.{Port}
-use Rattle·frame_security.specs.JoinAcceptCipher.{acceptDecrypted}
-use Rattle·frame_security.specs.Security.{covered, dataMic, joinMic}
-use Rattle·frame_opening.specs.FrameOpening.{givenKey}
-use Rattle·frame_opening.specs.declared.mic_tests.MicTest.{MicTest}
-use Rattle·frame_opening.specs.declared.mic_tests.MicTest.the-variants.{Passes, Fails, Refused as RefusedTest}
-use Rattle·frame_opening.specs.declared.payload.Opening.{Opening}
-use Rattle·frame_opening.specs.declared.payload.Opening.the-variants.{Opened, Refused}
-use Rattle·theorems·specs.specs.Exactly.{Exactly, Condition, _when_, _unless_}
-use Rattle·theorems·specs.specs.ByReading.{Needs, Is, ByReading}
+use Rattle.std.specs.Prelude.{◌≡◌, false, List, [], ◌∷◌, ℕ, ◌<◌, eqb, length}
+use Rattle.base.specs.Bytes.{pick}
+use Rattle.frame.specs.Layout.{payload, micOf}
+use Rattle.frame.specs.Reading.{portOf}
+use Rattle.frame.specs.Refusals.{refused}
+use Rattle.frame.specs.declared.refusals.Refusal.{Refusal}
+use Rattle.frame.specs.declared.keys.MaybeKey.{MaybeKey}
+use Rattle.frame.specs.declared.parser.FPort.TheVariants.{Port}
+use Rattle.frame_security.specs.JoinAcceptCipher.{acceptDecrypted}
+use Rattle.frame_security.specs.Security.{covered, dataMic, joinMic}
+use Rattle.frame_opening.specs.FrameOpening.{givenKey}
+use Rattle.frame_opening.specs.declared.mic_tests.MicTest.{MicTest}
+use Rattle.frame_opening.specs.declared.mic_tests.MicTest.TheVariants.{Passes, Fails, Refused as RefusedTest}
+use Rattle.frame_opening.specs.declared.payload.Opening.{Opening}
+use Rattle.frame_opening.specs.declared.payload.Opening.TheVariants.{Opened, Refused}
+use Rattle.theorems.specs.Exactly.{Exactly, Condition, ◌when◌, ◌unless◌}
+use Rattle.theorems.specs.ByReading.{Needs, Is, ByReading}
 
 -- the last four bytes are the MIC of those ahead of them: of a data frame, and of a join message, a join-accept clear
 abbrev pub RightDataMic : List ℕ → ℕ → List ℕ → Type 0
@@ -40,9 +35,9 @@ pub record Tests (k : Needs) (f : List ℕ) (Right : Type 0) (t : MicTest) : Typ
 -- 6: the key of the payload was not given: the network key where the payload is empty or its port is 0, the application key of
 -- a payload on every other port
 pub data KeyMissing (f : List ℕ) (nwk app : MaybeKey) : Type 0 where
-  empty : length (payload f) ≡ 0 → nwk .given ≡ false → KeyMissing f nwk app
-  zero : portOf f ≡ Port 0 → nwk .given ≡ false → KeyMissing f nwk app
-  other : (p : ℕ) → portOf f ≡ Port p → (p ≡ 0 → ⊥) → 0 < length (payload f) → app .given ≡ false → KeyMissing f nwk app
+  empty : length (payload f) ≡ 0 → nwk.given ≡ false → KeyMissing f nwk app
+  zero : portOf f ≡ Port 0 → nwk.given ≡ false → KeyMissing f nwk app
+  other : (p : ℕ) → portOf f ≡ Port p → (p ≡ 0 → ⊥) → 0 < length (payload f) → app.given ≡ false → KeyMissing f nwk app
 
 -- plain decryption of a data frame
 abbrev pub plainConditions : MaybeKey → MaybeKey → List ℕ → List Condition

@@ -1,7 +1,6 @@
 -- What FIPS 197 prints in its worked examples.
 -- Assumes nothing.
-use mathlib.Core.List.{List, [], _∷_}
-use Prim.Native.Nat.{ℕ}
+use Rattle.std.specs.Prelude.{List, [], ◌∷◌, ℕ}
 
 -- ---- Appendix A.1 and Appendix B, under one key
 

@@ -1,7 +1,6 @@
 -- What RFC 4493, section 4, prints in its examples. The key of every one is that of FIPS 197, A.1.
 -- Assumes nothing.
-use mathlib.Core.List.{List, [], _∷_}
-use Prim.Native.Nat.{ℕ}
+use Rattle.std.specs.Prelude.{List, [], ◌∷◌, ℕ}
 
 -- ---- subkey generation
 

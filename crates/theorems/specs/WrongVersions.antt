@@ -1,37 +1,34 @@
 -- The versions that docs/RULES.md names for trial under "What each call is held to", and what each would have to meet.
 -- Assumes nothing.
-use mathlib.Core.Path.{_≡_}
-use mathlib.Core.List.{List, [], _∷_}
-use Prim.Native.Nat.{ℕ, _+_}
-use lib.ListN.{length, take, set}
-use Rattle·frame.specs.Layout.{payloadStart, micOf}
-use Rattle·frame.specs.ReadingNumbers.{numberOf, valuesOf}
-use Rattle·frame.specs.Reading.{readOf}
-use Rattle·frame.specs.Refusals.{refused}
-use Rattle·frame.specs.declared.parser.Reading.{Reading}
-use Rattle·frame_build.specs.DataBuilding.{dataRefusal}
-use Rattle·frame_build.specs.DataFrames.{dataFrame}
-use Rattle·frame_security.specs.Built.{builtOf}
-use Rattle·frame_security.specs.declared.sealing.Built.{Built}
-use Rattle·frame_security.specs.declared.sealing.Built.the-variants.{Frame}
-use Rattle·frame_build.specs.declared.creator.data_frame.DataParts.{DataParts}
-use Rattle·amend.specs.Amending.{openState, encryptedByte, amendOf}
-use Rattle·amend.specs.AmendmentLists.{Amendment, Stands}
-use Rattle·amend.specs.OpenFrame.{openOf}
-use Rattle·amend.specs.declared.amending.Open.{Open}
+use Rattle.std.specs.Prelude.{◌≡◌, List, [], ◌∷◌, ℕ, ◌+◌, length, take, set}
+use Rattle.frame.specs.Layout.{payloadStart, micOf}
+use Rattle.frame.specs.ReadingNumbers.{number_of, valuesOf}
+use Rattle.frame.specs.Reading.{read_of}
+use Rattle.frame.specs.Refusals.{refused}
+use Rattle.frame.specs.declared.parser.Reading.{Reading}
+use Rattle.frame_build.specs.DataBuilding.{dataRefusal}
+use Rattle.frame_build.specs.DataFrames.{dataFrame}
+use Rattle.frame_security.specs.Built.{builtOf}
+use Rattle.frame_security.specs.declared.sealing.Built.{Built}
+use Rattle.frame_security.specs.declared.sealing.Built.TheVariants.{Frame}
+use Rattle.frame_build.specs.declared.creator.data_frame.DataParts.{DataParts}
+use Rattle.amend.specs.Amending.{openState, encryptedByte, amendOf}
+use Rattle.amend.specs.AmendmentLists.{Amendment, Stands}
+use Rattle.amend.specs.OpenFrame.{openOf}
+use Rattle.amend.specs.declared.amending.Open.{Open}
 
 -- ---- readers
 
 abbrev pub Reads : (List ℕ → Reading) → Type 0
-Reads read = (f : List ℕ) → read f ≡ readOf f
+Reads read = (f : List ℕ) → read f ≡ read_of f
 
 -- one that refuses each frame
 abbrev pub RefusesEach : (List ℕ → Reading) → Type 0
-RefusesEach read = (f : List ℕ) → numberOf (read f) ≡ 0 → ⊥
+RefusesEach read = (f : List ℕ) → number_of (read f) ≡ 0 → ⊥
 
 -- one that shows the same fields for all frames that are to be accepted
 abbrev pub SameForAll : (List ℕ → Reading) → Type 0
-SameForAll read = (f g : List ℕ) → numberOf (readOf f) ≡ 0 → numberOf (readOf g) ≡ 0 → valuesOf (read f) ≡ valuesOf (read g)
+SameForAll read = (f g : List ℕ) → number_of (read_of f) ≡ 0 → number_of (read_of g) ≡ 0 → valuesOf (read f) ≡ valuesOf (read g)
 
 -- ---- builders: of both keys, the fields, commands, payload and the room for the frame
 
@@ -54,8 +51,8 @@ Reports n build =
 
 abbrev pub Amends : (Open → List Amendment → Open) → Type 0
 Amends amend =
-    (f nwk app : List ℕ) (counter : ℕ) → openOf f nwk app counter .refusal .number ≡ 0 → (list : List Amendment)
-    → Stands f nwk app counter list (amend (openOf f nwk app counter .state) list)
+    (f nwk app : List ℕ) (counter : ℕ) → (openOf f nwk app counter).refusal.number ≡ 0 → (list : List Amendment)
+    → Stands f nwk app counter list (amend (openOf f nwk app counter).state list)
 
 -- one that returns its state untouched
 abbrev pub untouched : Open → List Amendment → Open
@@ -64,20 +61,20 @@ untouched s list = s
 -- the encrypted byte stored, and nothing else
 abbrev pub stored : Open → ℕ → ℕ → Open
 stored s k v =
-    openState (set (s .frame) (payloadStart (s .frame) + k) (encryptedByte s k v)) (s .length) (s .«nwk_schedule»)
-    (s .«app_schedule») (s .counter) (s .chains)
+    openState (set s.frame (payloadStart s.frame + k) (encryptedByte s k v)) s.length s.nwk_schedule
+    s.app_schedule s.counter s.chains
 
 unfoldable pub storesOnly : Open → List Amendment → Open
 storesOnly s [] = s
-storesOnly s (a ∷ list) = storesOnly (stored s (a .offset) (a .value)) list
+storesOnly s (a ∷ list) = storesOnly (stored s a.offset a.value) list
 
 -- one that signs properly the first time, and later only stores the byte
 unfoldable pub signsFirst : Open → List Amendment → Open
 signsFirst s [] = s
-signsFirst s (a ∷ list) = storesOnly (amendOf s (a .offset) (a .value) .state) list
+signsFirst s (a ∷ list) = storesOnly (amendOf s a.offset a.value).state list
 
 -- one under which every frame ends in the same MIC
 abbrev pub ConstantMic : (Open → List Amendment → Open) → Type 0
 ConstantMic amend =
     (s t : Open) (a b : List Amendment)
-    → micOf (take (amend s a .length) (amend s a .frame)) ≡ micOf (take (amend t b .length) (amend t b .frame))
+    → micOf (take (amend s a).length (amend s a).frame) ≡ micOf (take (amend t b).length (amend t b).frame)

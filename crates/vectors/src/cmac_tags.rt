@@ -1,10 +1,9 @@
 // The published vectors of CMAC with AES-128 (docs/VECTORS.md). Each message goes in one part, byte by byte, and in every
 // cutting into two, and each tag is written out.
-ghost use Prim.Native.Nat.{_≤_};
-ghost use lib.ListN.{length};
+ghost use Rattle.std.specs.Prelude.{◌≤◌, length};
+
 use crate::report;
-use crate::sample::KEY;
-use crate::sample::MESSAGE;
+use crate::sample::{KEY, MESSAGE};
 use cmac::Cmac;
 use libc::STDOUT_FILENO;
 
@@ -22,7 +21,7 @@ fn byte_by_byte(message: &[u8]) -> [u8; 16] {
 
 // The first `at` bytes, then the rest.
 fn in_two(message: &[u8], at: usize) -> [u8; 16]
-    requires { ⌜ at ≤ length (now message) ⌝ }
+    requires { at ≤ length message.now }
 {
     let start: usize = 0;
     let front = &message[start..at];
@@ -38,7 +37,7 @@ fn told(tags: u64, tag: [u8; 16]) -> u64 {
 
 // Writes and counts the tags of a message in every cutting into two.
 fn every_cutting(tags: u64, message: &[u8]) -> u64
-    requires { ⌜ length (now message) ≤ 64 ⌝ }
+    requires { length message.now ≤ 64 }
 {
     let mut count = tags;
     let mut at: usize = 0;
@@ -51,7 +50,7 @@ fn every_cutting(tags: u64, message: &[u8]) -> u64
 
 // Writes the name of an example and the tags of its message, and counts the tags.
 fn example(tags: u64, name: &[u8], message: &[u8]) -> u64
-    requires { ⌜ length (now message) ≤ 64 ⌝ }
+    requires { length message.now ≤ 64 }
 {
     io::write_all(STDOUT_FILENO, name);
     let whole = told(tags, cmac::tag(KEY, message));

@@ -1,6 +1,7 @@
 // What the program writes of its vectors, and how it counts them.
 use libc::STDOUT_FILENO;
 
+#[derive(Drop)]
 pub(crate) struct Tally {
     pub vectors: u64,
     pub same: u64,

@@ -1,46 +1,46 @@
 -- What a view that the library made shows: of every frame, each field is the one that the layout names. An accepted frame is
 -- long enough for each of its parts, so that the part's place lies within it; of any other frame no place is given.
 -- Assumes nothing.
-use mathlib.Core.Path.{_≡_, refl, sym, ap, _∙_}
+use mathlib.Core.Path.{◌≡◌, refl, sym, ap, ◌∙◌}
 use mathlib.Core.Bool.{Bool, true, false}
 use mathlib.Core.List.{List}
-use Prim.Native.Nat.{ℕ, _+_, _-_, _%_, _≤_, zero-le}
+use Prim.Native.Nat.{ℕ, ◌+◌, ◌-◌, ◌%◌, ◌≤◌, zero-le}
 use native.Mathlib.Omega.{arith}
 use lib.Dec.{eqb}
 use lib.ListN.{length, drop, length-drop}
-use lib.Seq.{take-all}
+use lib.Seq.{take_all}
 use borrow.Author.Tests.{le-ltb, le-leb, lt-leb}
-use Rattle·base.specs.Bytes.{pick, at, part}
-use Rattle·base.proofs.Cases.{by-bool, by-order}
-use Rattle·frame.specs.Layout.{fhdrLength, hasPort, fport, headerEnd, payloadStart, payloadEnd}
-use Rattle·frame.specs.Reading.{portOf, heldBy, payloadOf, dataOf, readOf}
-use Rattle·frame.specs.ReadingNumbers.{portGiven, portNumber, payloadKind, payloadFrom, payloadTo, plainValues, dataValues, valuesOf}
-use Rattle·frame.specs.Conditions.{IsData}
-use Rattle·frame.specs.declared.parser.FPort.the-variants.{Absent, Port}
-use Rattle·frame.specs.declared.parser.FrmPayload.{FrmPayload}
-use Rattle·frame.specs.declared.parser.FrmPayload.the-variants.{Nothing, Data as PlainData, MacCommands}
-use Rattle·frame.specs.declared.parser.DataFrame.{DataFrame}
-use Rattle·frame.specs.declared.parser.Reading.{Reading}
-use Rattle·frame.specs.declared.parser.Reading.the-variants.{JoinRequest, JoinAccept, Data, Refused}
-use Rattle·frame.proofs.ReadingLaws.{Says, answers}
-use Rattle·view·specs.specs.ViewNumbers.{layoutValues}
-use Rattle·view·specs.specs.Parts.{dataPlace, fieldPlace, pieceOf, shownOf}
-use Rattle·view·specs.specs.FrameFields.{noField, dataField, joinField, fieldIn, fieldOf}
-use Rattle·view·specs.specs.declared.parts.Field.{Field}
-use Rattle·view·specs.specs.declared.parts.Field.the-variants.{DevAddr, FOpts, Payload, AppEui, DevEui, DevNonce, Mic}
+use Rattle.base.specs.Bytes.{pick, at, part}
+use Rattle.base.proofs.Cases.{by_bool, by_order}
+use Rattle.frame.specs.Layout.{fhdrLength, hasPort, fport, headerEnd, payloadStart, payloadEnd}
+use Rattle.frame.specs.Reading.{portOf, heldBy, payloadOf, data_of, read_of}
+use Rattle.frame.specs.ReadingNumbers.{portGiven, portNumber, payloadKind, payloadFrom, payloadTo, plainValues, dataValues, valuesOf}
+use Rattle.frame.specs.Conditions.{IsData}
+use Rattle.frame.specs.declared.parser.FPort.TheVariants.{Absent, Port}
+use Rattle.frame.specs.declared.parser.FrmPayload.{FrmPayload}
+use Rattle.frame.specs.declared.parser.FrmPayload.TheVariants.{Nothing, Data as PlainData, MacCommands}
+use Rattle.frame.specs.declared.parser.DataFrame.{DataFrame}
+use Rattle.frame.specs.declared.parser.Reading.{Reading}
+use Rattle.frame.specs.declared.parser.Reading.TheVariants.{JoinRequest, JoinAccept, Data, Refused}
+use Rattle.frame.proofs.ReadingLaws.{Says, answers}
+use Rattle.view.specs.ViewNumbers.{layoutValues}
+use Rattle.view.specs.Parts.{dataPlace, fieldPlace, piece_of, shownOf}
+use Rattle.view.specs.FrameFields.{no_field, dataField, joinField, fieldIn, field_of}
+use Rattle.view.specs.declared.parts.Field.{Field}
+use Rattle.view.specs.declared.parts.Field.TheVariants.{DevAddr, FOpts, Payload, AppEui, DevEui, DevNonce, Mic}
 
 -- ---- a piece
 
 -- within f it is the bytes from a up to e
-pub piece-within : (f : List ℕ) (a e : ℕ) → a ≤ e → e ≤ length f → pieceOf f a e ≡ (a, part a (e - a) f)
-unfolding pieceOf
+pub piece-within : (f : List ℕ) (a e : ℕ) → a ≤ e → e ≤ length f → piece_of f a e ≡ (a, part a (e - a) f)
+unfolding piece_of
 piece-within f a e h k = simp (le-ltb e a h, le-ltb (length f) e k)
 
 -- up to the end of f it is the rest of f
-pub piece-rest : (f : List ℕ) (a : ℕ) → a ≤ length f → pieceOf f a (length f) ≡ (a, drop a f)
-piece-rest f a h = piece-within f a (length f) h (omega arith) ∙ ap (λ (l : List ℕ). (a, l)) (take-all (length f - a) (drop a f) (omega (arith, length-drop a f)))
+pub piece-rest : (f : List ℕ) (a : ℕ) → a ≤ length f → piece_of f a (length f) ≡ (a, drop a f)
+piece-rest f a h = piece-within f a (length f) h (omega arith) ∙ ap (λ (l : List ℕ). (a, l)) (take_all (length f - a) (drop a f) (omega (arith, length-drop a f)))
 
-pub piece-nowhere : (f : List ℕ) → pieceOf f 0 0 ≡ noField
+pub piece-nowhere : (f : List ℕ) → piece_of f 0 0 ≡ no_field
 piece-nowhere f = piece-within f 0 0 zero-le zero-le
 
 -- ---- the port and the payload of a data frame
@@ -49,7 +49,7 @@ piece-nowhere f = piece-within f 0 0 zero-le zero-le
 chosen : {A : Type 0} (g : FrmPayload → A) (b : Bool) (p s e : ℕ)
     → g (heldBy (pick b (Port p) Absent) s e)
     ≡ pick b (pick (eqb p 0) (g (MacCommands s e)) (g (PlainData s e))) (g Nothing)
-chosen g true p s e = by-bool (eqb p 0) (λ t. rw t) (λ t. rw t)
+chosen g true p s e = by_bool (eqb p 0) (λ t. rw t) (λ t. rw t)
 chosen g false p s e = refl
 
 -- a choice between one thing and itself
@@ -71,15 +71,15 @@ module _ (f : List ℕ) where
 
   pub port-is-given : portGiven (portOf f) ≡ hasPort f
   unfolding portOf
-  port-is-given = by-bool (hasPort f) (λ e. rw e) (λ e. rw e)
+  port-is-given = by_bool (hasPort f) (λ e. rw e) (λ e. rw e)
 
   pub port-is : portNumber (portOf f) ≡ pick (hasPort f) (fport f) 0
   unfolding portOf
-  port-is = by-bool (hasPort f) (λ e. rw e) (λ e. rw e)
+  port-is = by_bool (hasPort f) (λ e. rw e) (λ e. rw e)
 
   -- the numbers of a data frame are those of the layout
-  pub data-values : dataValues (dataOf f) ≡ layoutValues f
-  unfolding dataOf dataValues
+  pub data-values : dataValues (data_of f) ≡ layoutValues f
+  unfolding data_of dataValues
   data-values = cc (port-is-given, port-is, of-payload payloadKind, payload-start, payload-end)
 
 -- ---- the fields
@@ -96,14 +96,14 @@ join-field f e Mic = piece-rest f 19 (omega arith) ∙ ap (λ (n : ℕ). (19, dr
 
 module _ (f : List ℕ) (h : IsData f) where
   -- the kind is that of a data frame
-  in-place : (field : Field) → shownOf f (dataValues (dataOf f)) field
-      ≡ pieceOf f (dataPlace (dataValues (dataOf f)) (length f) field .start) (dataPlace (dataValues (dataOf f)) (length f) field .end)
+  in_place : (field : Field) → shownOf f (dataValues (data_of f)) field
+      ≡ piece_of f (dataPlace (dataValues (data_of f)) (length f) field).start (dataPlace (dataValues (data_of f)) (length f) field).end
   unfolding fieldPlace dataValues
-  in-place field = refl
+  in_place field = refl
 
-  payload-piece : pieceOf f (payloadFrom (payloadOf f)) (payloadTo (payloadOf f)) ≡ dataField f Payload
+  payload-piece : piece_of f (payloadFrom (payloadOf f)) (payloadTo (payloadOf f)) ≡ dataField f Payload
   payload-piece =
-      by-order (fhdrLength f + 6) (length f)
+      by_order (fhdrLength f + 6) (length f)
       (λ k.
       let there : hasPort f ≡ true = le-leb (fhdrLength f + 6) (length f) k in
       let first : headerEnd f ≡ payloadStart f = omega arith in
@@ -112,33 +112,33 @@ module _ (f : List ℕ) (h : IsData f) where
       let none : hasPort f ≡ false = lt-leb (fhdrLength f + 6) (length f) k in
       rw (payload-start f, payload-end f, none) (piece-nowhere f))
 
-  data-field : (field : Field) → shownOf f (dataValues (dataOf f)) field ≡ dataField f field
-  unfolding dataOf dataValues
-  data-field DevAddr = in-place DevAddr ∙ piece-within f 1 5 (omega arith) (omega (arith, h .least))
+  data-field : (field : Field) → shownOf f (dataValues (data_of f)) field ≡ dataField f field
+  unfolding data_of dataValues
+  data-field DevAddr = in_place DevAddr ∙ piece-within f 1 5 (omega arith) (omega (arith, h.least))
   data-field FOpts =
       let long : 1 + fhdrLength f - 8 ≡ at f 5 % 16 = omega arith in
-      in-place FOpts ∙ piece-within f 8 (1 + fhdrLength f) (omega arith) (omega (arith, h .fits)) ∙ ap (λ (n : ℕ). (8, part 8 n f)) long
-  data-field Payload = in-place Payload ∙ payload-piece
-  data-field AppEui = in-place AppEui ∙ piece-nowhere f
-  data-field DevEui = in-place DevEui ∙ piece-nowhere f
-  data-field DevNonce = in-place DevNonce ∙ piece-nowhere f
-  data-field Mic = in-place Mic ∙ piece-rest f (length f - 4) (omega arith)
+      in_place FOpts ∙ piece-within f 8 (1 + fhdrLength f) (omega arith) (omega (arith, h.fits)) ∙ ap (λ (n : ℕ). (8, part 8 n f)) long
+  data-field Payload = in_place Payload ∙ payload-piece
+  data-field AppEui = in_place AppEui ∙ piece-nowhere f
+  data-field DevEui = in_place DevEui ∙ piece-nowhere f
+  data-field DevNonce = in_place DevNonce ∙ piece-nowhere f
+  data-field Mic = in_place Mic ∙ piece-rest f (length f - 4) (omega arith)
 
-accept-field : (f : List ℕ) (n : ℕ) (field : Field) → shownOf f (plainValues 2 0 0 n) field ≡ noField
+accept-field : (f : List ℕ) (n : ℕ) (field : Field) → shownOf f (plainValues 2 0 0 n) field ≡ no_field
 unfolding fieldPlace plainValues
 accept-field f n field = piece-nowhere f
 
-refused-field : (f : List ℕ) (n p : ℕ) (field : Field) → shownOf f (plainValues 0 n p 0) field ≡ noField
+refused-field : (f : List ℕ) (n p : ℕ) (field : Field) → shownOf f (plainValues 0 n p 0) field ≡ no_field
 unfolding fieldPlace plainValues
 refused-field f n p field = piece-nowhere f
 
 -- by what an answer says of the frame
-by-answer : (f : List ℕ) (r : Reading) → Says f r → (field : Field) → shownOf f (valuesOf r) field ≡ fieldIn r f field
-by-answer f JoinRequest h field = join-field f (h .long) field
-by-answer f (JoinAccept n) h field = accept-field f n field
-by-answer f (Data d) h field = ap (λ (x : DataFrame). shownOf f (dataValues x) field) (h .1) ∙ data-field f (h .0) field
-by-answer f (Refused r) h field = refused-field f (r .number) (r .place) field
+by_answer : (f : List ℕ) (r : Reading) → Says f r → (field : Field) → shownOf f (valuesOf r) field ≡ fieldIn r f field
+by_answer f JoinRequest h field = join-field f h.long field
+by_answer f (JoinAccept n) h field = accept-field f n field
+by_answer f (Data d) h field = ap (λ (x : DataFrame). shownOf f (dataValues x) field) h.1 ∙ data-field f h.0 field
+by_answer f (Refused r) h field = refused-field f r.number r.place field
 
 -- every field of every frame
-pub shows : (f : List ℕ) (field : Field) → shownOf f (valuesOf (readOf f)) field ≡ fieldOf f field
-shows f field = by-answer f (readOf f) (answers f) field
+pub shows : (f : List ℕ) (field : Field) → shownOf f (valuesOf (read_of f)) field ≡ field_of f field
+shows f field = by_answer f (read_of f) (answers f) field

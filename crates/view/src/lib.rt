@@ -1,19 +1,19 @@
 // A view of a frame: the caller's bytes with the place of each field in them. A part that is shown is that part of the
 // caller's own slice; nothing is copied.
-use crate::parts::Field;
-use crate::parts::shown;
-use frame::numbers::Values;
-use frame::numbers::values_of;
+ghost use Rattle.std.specs.Prelude.{◌≡◌};
+ghost use Rattle.frame.specs.Reading.{read_of};
+ghost use Rattle.frame.specs.ReadingNumbers.{valuesOf};
+ghost use Rattle.view.specs.FrameFields.{field_of};
+ghost use Rattle.view.specs.Parts.{seen, within};
+ghost use Rattle.view.specs.Viewed.{view_of, partOf};
+
+use crate::parts::{Field, shown};
+use frame::numbers::{Values, values_of};
 use frame::parser::read;
-ghost use mathlib.Core.Path.{_≡_};
-ghost use Rattle·frame.specs.Reading.{readOf};
-ghost use Rattle·frame.specs.ReadingNumbers.{valuesOf};
-ghost use Rattle·view·specs.specs.FrameFields.{fieldOf};
-ghost use Rattle·view·specs.specs.Parts.{seen, within};
-ghost use Rattle·view·specs.specs.Viewed.{viewOf, partOf};
 
 pub mod parts;
 
+#[derive(Drop)]
 pub struct View<'a> {
     pub bytes: &'a [u8],
     pub numbers: Values,
@@ -21,7 +21,7 @@ pub struct View<'a> {
 
 // What a frame says in numbers, and where its parts lie.
 fn numbers_of(frame: &[u8]) -> Values
-    ensures { λ r. ⌜ r ≡ valuesOf (readOf (now (frame .entry))) ⌝ }
+    ensures { result ≡ valuesOf (read_of frame.now) }
 {
     values_of(read(frame))
 }
@@ -29,7 +29,7 @@ fn numbers_of(frame: &[u8]) -> Values
 impl<'a> View<'a> {
     // The view of a frame, accepted or refused.
     pub fn of(frame: &'a [u8]) -> View<'a>
-        ensures { λ r. ⌜ r ≡ viewOf (frame .entry) ⌝ }
+        ensures { result ≡ view_of frame.entry }
     {
         let found = numbers_of(frame);
         View {
@@ -40,56 +40,56 @@ impl<'a> View<'a> {
 
     // A field as a part of the caller's bytes: the empty part where the view has none, whoever made the view.
     pub fn part(self, field: Field) -> &'a [u8]
-        ensures { λ r. ⌜ seen r ≡ partOf (self .entry) field ⌝ }
+        ensures { seen result ≡ partOf self.entry field }
     {
         shown(self.bytes, self.numbers, field)
     }
 
     // DevAddr of a data frame (4.3.1), in frame order.
     pub fn dev_addr(self) -> &'a [u8]
-        ensures { λ r. ⌜ seen r ≡ partOf (self .entry) Field.DevAddr ⌝ }
+        ensures { seen result ≡ partOf self.entry Field.DevAddr }
     {
         self.part(Field::DevAddr)
     }
 
     // FOpts of a data frame (4.3.1.6).
     pub fn fopts(self) -> &'a [u8]
-        ensures { λ r. ⌜ seen r ≡ partOf (self .entry) Field.FOpts ⌝ }
+        ensures { seen result ≡ partOf self.entry Field.FOpts }
     {
         self.part(Field::FOpts)
     }
 
     // FRMPayload of a data frame (4.3.3), encrypted as it came.
     pub fn payload(self) -> &'a [u8]
-        ensures { λ r. ⌜ seen r ≡ partOf (self .entry) Field.Payload ⌝ }
+        ensures { seen result ≡ partOf self.entry Field.Payload }
     {
         self.part(Field::Payload)
     }
 
     // AppEUI of a join-request (6.2.4).
     pub fn app_eui(self) -> &'a [u8]
-        ensures { λ r. ⌜ seen r ≡ partOf (self .entry) Field.AppEui ⌝ }
+        ensures { seen result ≡ partOf self.entry Field.AppEui }
     {
         self.part(Field::AppEui)
     }
 
     // DevEUI of a join-request.
     pub fn dev_eui(self) -> &'a [u8]
-        ensures { λ r. ⌜ seen r ≡ partOf (self .entry) Field.DevEui ⌝ }
+        ensures { seen result ≡ partOf self.entry Field.DevEui }
     {
         self.part(Field::DevEui)
     }
 
     // DevNonce of a join-request.
     pub fn dev_nonce(self) -> &'a [u8]
-        ensures { λ r. ⌜ seen r ≡ partOf (self .entry) Field.DevNonce ⌝ }
+        ensures { seen result ≡ partOf self.entry Field.DevNonce }
     {
         self.part(Field::DevNonce)
     }
 
     // The MIC of a data frame or a join-request (4.4).
     pub fn mic(self) -> &'a [u8]
-        ensures { λ r. ⌜ seen r ≡ partOf (self .entry) Field.Mic ⌝ }
+        ensures { seen result ≡ partOf self.entry Field.Mic }
     {
         self.part(Field::Mic)
     }
@@ -97,7 +97,7 @@ impl<'a> View<'a> {
 
 // The same of a frame, for a caller that keeps no view.
 pub fn part_of(frame: &[u8], field: Field) -> &[u8]
-    ensures { λ r. ⌜ seen r ≡ within (frame .entry) (fieldOf (now (frame .entry)) field) ⌝ }
+    ensures { seen result ≡ within frame.entry (field_of frame.now field) }
 {
     View::of(frame).part(field)
 }

@@ -1,17 +1,15 @@
 // The parts of a frame as parts of the caller's slice. Each function is total: what does not lie within the slice, or is
 // no part of a frame of that type, is shown as the empty part.
+ghost use Rattle.std.specs.Prelude.{◌≡◌};
+ghost use Rattle.view.specs.Parts.{joinPlace, dataPlace, fieldPlace, piece_of, shownOf, seen, within};
+
 use frame::numbers::Values;
-use frame::packet_length::APP_EUI_AT;
-use frame::packet_length::DEV_ADDR_AT;
-use frame::packet_length::DEV_EUI_AT;
-use frame::packet_length::DEV_NONCE_AT;
-use frame::packet_length::FCTRL_AT;
-use frame::packet_length::FOPTS_AT;
-use frame::packet_length::REQUEST_MIC_AT;
-ghost use mathlib.Core.Path.{_≡_};
-ghost use Rattle·view·specs.specs.Parts.{joinPlace, dataPlace, fieldPlace, pieceOf, shownOf, seen, within};
+use frame::packet_length::{
+    APP_EUI_AT, DEV_ADDR_AT, DEV_EUI_AT, DEV_NONCE_AT, FCTRL_AT, FOPTS_AT, REQUEST_MIC_AT,
+};
 
 // The parts that a view shows: those of a data frame (4.3), those of a join-request (6.2.4), and the MIC of both (4.4).
+#[derive(Drop)]
 pub enum Field {
     DevAddr,
     FOpts,
@@ -23,6 +21,7 @@ pub enum Field {
 }
 
 // Where a part lies: from start up to end.
+#[derive(Drop)]
 pub struct Place {
     pub start: usize,
     pub end: usize,
@@ -30,7 +29,7 @@ pub struct Place {
 
 // In a join-request of that length.
 fn join_place(length: usize, field: Field) -> Place
-    ensures { λ r. ⌜ r ≡ joinPlace length field ⌝ }
+    ensures { result ≡ joinPlace length field }
 {
     match field {
         Field::DevAddr => Place { start: 0, end: 0 },
@@ -57,7 +56,7 @@ fn join_place(length: usize, field: Field) -> Place
 
 // In a data frame of those numbers and that length.
 fn data_place(numbers: Values, length: usize, field: Field) -> Place
-    ensures { λ r. ⌜ r ≡ dataPlace numbers length field ⌝ }
+    ensures { result ≡ dataPlace numbers length field }
 {
     match field {
         Field::DevAddr => Place {
@@ -85,7 +84,7 @@ fn data_place(numbers: Values, length: usize, field: Field) -> Place
 // Where a field lies in a frame of those numbers and that length; 0 and 0 where the frame has none. A join-accept is
 // encrypted, and shows none.
 pub(crate) fn field_place(numbers: Values, length: usize, field: Field) -> Place
-    ensures { λ r. ⌜ r ≡ fieldPlace numbers length field ⌝ }
+    ensures { result ≡ fieldPlace numbers length field }
 {
     if numbers.kind == 1 {
         return join_place(length, field);
@@ -98,7 +97,7 @@ pub(crate) fn field_place(numbers: Values, length: usize, field: Field) -> Place
 
 // The bytes from start up to end.
 pub(crate) fn piece(bytes: &[u8], start: usize, end: usize) -> &[u8]
-    ensures { λ r. ⌜ seen r ≡ within (bytes .entry) (pieceOf (now (bytes .entry)) start end) ⌝ }
+    ensures { seen result ≡ within bytes.entry (piece_of bytes.now start end) }
 {
     if end < start {
         return &bytes[0..0];
@@ -111,7 +110,7 @@ pub(crate) fn piece(bytes: &[u8], start: usize, end: usize) -> &[u8]
 
 // The field as a part of the bytes, by the numbers that go with them.
 pub(crate) fn shown(bytes: &[u8], numbers: Values, field: Field) -> &[u8]
-    ensures { λ r. ⌜ seen r ≡ within (bytes .entry) (shownOf (now (bytes .entry)) numbers field) ⌝ }
+    ensures { seen result ≡ within bytes.entry (shownOf bytes.now numbers field) }
 {
     let place = field_place(numbers, bytes.len(), field);
     let start = place.start;

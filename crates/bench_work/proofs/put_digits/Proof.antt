@@ -1,20 +1,20 @@
 -- `bench_work::put_digits` is safe and ends: a byte a turn.
 -- Assumes nothing.
-use Prim.Native.Nat.{_-_, _≤_}
+use Prim.Native.Nat.{◌-◌, ◌≤◌}
 use native.Mathlib.Omega.{arith}
-use borrow.Author.Needs.{needs}
+use borrow.Author.Rules.{rules}
 use lib.ListN.{length}
-use Rattle·bench_work·proofs.proofs.put_digits.Statement.{statement}
-use Rattle·bench_work·proofs.proofs.put_digits.Tie as tie
+use Rattle.bench_work.proofs.put_digits.Statement.{statement}
+use Rattle.bench_work.proofs.put_digits.Tie as tie
 
-abbrev Inv-loop : tie.InvT-loop
-Inv-loop bytes i₀ i = i ≤ length bytes
+abbrev invariant-loop : tie.invariant-loop
+invariant-loop bytes i₀ i = i ≤ length bytes
 
-abbrev μ-loop : tie.MeasureT-loop
-μ-loop bytes i₀ i = length bytes - i
+abbrev decreases-loop : tie.decreases-loop
+decreases-loop bytes i₀ i = length bytes - i
 
 pub put-digits-spec : {M : Type 1} → statement M
 put-digits-spec =
     tie.close
-    (tie.spec Inv-loop μ-loop (λ c. omega arith) (λ c. omega arith) (λ c κs. search needs) (λ c κs. search needs)
-    (λ c. omega arith) (λ c. omega arith) (λ c. omega arith) (λ c. search needs))
+    (tie.spec invariant-loop decreases-loop (λ c. omega arith) (λ c. omega arith) (λ c κs. search rules) (λ c κs. search rules)
+    (λ c. omega arith) (λ c. omega arith) (λ c. omega arith) (λ c. search rules))

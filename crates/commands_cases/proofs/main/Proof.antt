@@ -1,22 +1,22 @@
 -- `commands_cases::main` meets its contract, which only says that it is safe and ends: each turn takes one from a count.
 -- Assumes nothing.
 use native.Mathlib.Omega.{arith}
-use Rattle·commands_cases·proofs.proofs.main.Statement.{statement}
-use Rattle·commands_cases·proofs.proofs.main.Tie as tie
+use Rattle.commands_cases.proofs.main.Statement.{statement}
+use Rattle.commands_cases.proofs.main.Tie as tie
 
-abbrev Inv-loop : tie.InvT-loop
-Inv-loop turns₀ turns = Unit
+abbrev invariant-loop : tie.invariant-loop
+invariant-loop turns₀ turns = Unit
 
-abbrev μ-loop : tie.MeasureT-loop
-μ-loop turns₀ turns = turns
+abbrev decreases-loop : tie.decreases-loop
+decreases-loop turns₀ turns = turns
 
-sub-turns : tie.Need-sub-turns Inv-loop μ-loop
+sub-turns : tie.Need-overflow-sub-turns invariant-loop decreases-loop
 sub-turns c = omega arith
 
-loop-less : tie.Need-loop-less Inv-loop μ-loop
+loop-less : tie.Need-loop-smaller invariant-loop decreases-loop
 loop-less c = omega arith
 
-pub main-spec : {M : Type 1} → statement M
-main-spec =
+pub main_spec : {M : Type 1} → statement M
+main_spec =
     tie.close
-    (tie.spec Inv-loop μ-loop (λ c. tt) (λ c κs. tt) sub-turns loop-less (λ c. tt) (λ c. tt) (λ c. tt))
+    (tie.spec invariant-loop decreases-loop (λ c. tt) (λ c κs. tt) sub-turns loop-less (λ c. tt) (λ c. tt) (λ c. tt))

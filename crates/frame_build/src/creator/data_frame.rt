@@ -1,31 +1,24 @@
 // Building data frames (creator.rs of the crate). The fields go in by value, in one record;
 // commands, payload and output are lent. Nothing is remembered between calls.
-ghost use mathlib.Core.Path.{_≡_};
-ghost use mathlib.Core.List.{_++_};
-ghost use Prim.Native.Nat.{_+_, _/_, _%_, _≤_, _<_};
-ghost use lib.Dec.{leb};
-ghost use lib.ListN.{length};
-ghost use Rattle·base.specs.Storing.{Put};
-ghost use Rattle·frame_build·specs.specs.DataBuilding.{clearData, dataRefusal, fixedHeader, mhdrOf};
-ghost use Rattle·frame_build·specs.specs.DataFrames.{dataFrame};
-ghost use Rattle·frame_build·specs.specs.DataRefusalCases.{absentRefusal, portRefusal};
-ghost use Rattle·frame_build·specs.specs.GivenParts.{DataGiven};
-ghost use Rattle·frame.specs.Refusals.{refused};
-ghost use Rattle·frame_security.specs.Built.{Builds};
-use frame::packet_length::FOPTS_MAX_LEN;
-use frame::packet_length::PHY_PAYLOAD_MAX_LEN;
+ghost use Rattle.std.specs.Prelude.{◌≡◌, ◌++◌, ◌+◌, ◌/◌, ◌%◌, ◌≤◌, ◌<◌, leb, length};
+ghost use Rattle.base.specs.Storing.{Put};
+ghost use Rattle.frame_build.specs.DataBuilding.{clearData, dataRefusal, fixedHeader, mhdrOf};
+ghost use Rattle.frame_build.specs.DataFrames.{dataFrame};
+ghost use Rattle.frame_build.specs.DataRefusalCases.{absentRefusal, portRefusal};
+ghost use Rattle.frame_build.specs.GivenParts.{DataGiven};
+ghost use Rattle.frame.specs.Refusals.{refused};
+ghost use Rattle.frame_security.specs.Built.{Builds};
+
+use frame::packet_length::{FOPTS_MAX_LEN, PHY_PAYLOAD_MAX_LEN};
 use frame::parser::FPort;
-use frame::refusals::BUFFER_TOO_SHORT;
-use frame::refusals::DATA_AND_MAC_COMMANDS_IN_PAYLOAD_NOT_ALLOWED;
-use frame::refusals::FOPTS_LEN_SET;
-use frame::refusals::FRAME_TOO_LONG;
-use frame::refusals::FRM_PAYLOAD_WITH_FPORT_ZERO;
-use frame::refusals::MAC_COMMAND_TOO_BIG_FOR_FOPTS;
-use frame::refusals::Refusal;
-use frame_security::sealing::Built;
-use frame_security::sealing::seal_data;
+use frame::refusals::{
+    BUFFER_TOO_SHORT, DATA_AND_MAC_COMMANDS_IN_PAYLOAD_NOT_ALLOWED, FOPTS_LEN_SET, FRAME_TOO_LONG,
+    FRM_PAYLOAD_WITH_FPORT_ZERO, MAC_COMMAND_TOO_BIG_FOR_FOPTS, Refusal,
+};
+use frame_security::sealing::{Built, seal_data};
 
 // A data frame (4.3): its kind, the address in frame order, FCtrl with a low nibble of 0, the whole counter and the port.
+#[derive(Drop)]
 pub struct DataParts {
     pub confirmed: bool,
     pub uplink: bool,
@@ -37,13 +30,13 @@ pub struct DataParts {
 
 // Whether the commands fit FOpts.
 pub fn can_piggyback(commands: &[u8]) -> bool
-    ensures { λ r. ⌜ r ≡ leb (length (now (commands .entry))) 15 ⌝ }
+    ensures { result ≡ leb (length commands.now) 15 }
 {
     commands.len() <= FOPTS_MAX_LEN
 }
 
 fn mhdr(confirmed: bool, uplink: bool) -> u8
-    ensures { λ r. ⌜ r ≡ mhdrOf confirmed uplink ⌝ }
+    ensures { result ≡ mhdrOf confirmed uplink }
 {
     if confirmed {
         return if uplink { 0x80 } else { 0xA0 };
@@ -53,8 +46,8 @@ fn mhdr(confirmed: bool, uplink: bool) -> u8
 
 // MHDR, DevAddr, FCtrl with FOptsLen, FCnt: the eight bytes that every data frame begins with.
 fn fixed_header(d: DataParts, fopts: u8) -> [u8; 8]
-    requires { ⌜ (d .fctrl % 16 ≡ 0) × (fopts < 16) ⌝ }
-    ensures { λ r. ⌜ r ≡ fixedHeader d fopts ⌝ }
+    requires { (d.fctrl % 16 ≡ 0) × (fopts < 16) }
+    ensures { result ≡ fixedHeader d fopts }
 {
     let a = d.dev_addr;
     let first = mhdr(d.confirmed, d.uplink);
@@ -66,10 +59,9 @@ fn fixed_header(d: DataParts, fopts: u8) -> [u8; 8]
 
 // Stores four parts one after another from the start of out, and answers the place past them.
 fn put_parts(out: &mut [u8], first: &[u8], second: &[u8], third: &[u8], fourth: &[u8]) -> usize
-    requires { ⌜ length (now first) + length (now second) + length (now third) + length (now fourth) ≤ length (now out) ⌝ }
-    ensures { λ r.
-        ⌜ Put (now (out .entry)) 0 (now (first .entry) ++ now (second .entry) ++ now (third .entry) ++ now (fourth .entry)) r
-        (now (out .exit)) ⌝ }
+    requires { length first.now + length second.now + length third.now + length fourth.now ≤ length out.old }
+    ensures { Put out.old 0 (first.now ++ second.now ++ third.now ++ fourth.now) result
+        out.new }
 {
     let a = base::storing::put(out, 0, first);
     let b = base::storing::put(out, a, second);
@@ -79,13 +71,11 @@ fn put_parts(out: &mut [u8], first: &[u8], second: &[u8], third: &[u8], fourth: 
 
 // The header's eight bytes, FOpts, the port byte if there is one and the payload, from the start of out.
 fn put_frame(d: DataParts, fopts: &[u8], port: &[u8], body: &[u8], out: &mut [u8]) -> usize
-    requires { ⌜
-        (d .fctrl % 16 ≡ 0) × (length (now fopts) < 16)
-        × (8 + length (now fopts) + length (now port) + length (now body) ≤ length (now out)) ⌝ }
-    ensures { λ r.
-        ⌜ Put (now (out .entry)) 0
-        (fixedHeader d (length (now (fopts .entry))) ++ now (fopts .entry) ++ now (port .entry) ++ now (body .entry)) r
-        (now (out .exit)) ⌝ }
+    requires { (d.fctrl % 16 ≡ 0) × (length fopts.now < 16)
+        × (8 + length fopts.now + length port.now + length body.now ≤ length out.old) }
+    ensures { Put out.old 0
+        (fixedHeader d (length fopts.now) ++ fopts.now ++ port.now ++ body.now) result
+        out.new }
 {
     let head = fixed_header(d, fopts.len() as u8);
     put_parts(out, &head, fopts, port, body)
@@ -94,7 +84,7 @@ fn put_frame(d: DataParts, fopts: &[u8], port: &[u8], body: &[u8], out: &mut [u8
 // The refusal of data building by its number, 0 where there is none. A length is compared with the longest frame before
 // it goes into a sum.
 fn data_refusal(d: DataParts, commands: &[u8], payload: &[u8], room: usize) -> u8
-    ensures { λ r. ⌜ r ≡ dataRefusal d (now (commands .entry)) (now (payload .entry)) room ⌝ }
+    ensures { result ≡ dataRefusal d commands.now payload.now room }
 {
     if room < PHY_PAYLOAD_MAX_LEN {
         return BUFFER_TOO_SHORT;
@@ -111,7 +101,7 @@ fn data_refusal(d: DataParts, commands: &[u8], payload: &[u8], room: usize) -> u
 
 // Refusals 9 and 11 of a frame without a port; twelve bytes and FOpts are never too long.
 fn without_port(commands: usize, payload: usize) -> u8
-    ensures { λ r. ⌜ r ≡ absentRefusal commands payload ⌝ }
+    ensures { result ≡ absentRefusal commands payload }
 {
     if FOPTS_MAX_LEN < commands {
         return MAC_COMMAND_TOO_BIG_FOR_FOPTS;
@@ -124,7 +114,7 @@ fn without_port(commands: usize, payload: usize) -> u8
 
 // Refusals 9, 10 and 12 of a frame with a port.
 fn with_port(port: u8, commands: usize, payload: usize) -> u8
-    ensures { λ r. ⌜ r ≡ portRefusal port commands payload ⌝ }
+    ensures { result ≡ portRefusal port commands payload }
 {
     if port == 0 {
         if 0 < payload {
@@ -146,8 +136,8 @@ fn with_port(port: u8, commands: usize, payload: usize) -> u8
 
 // The clear data frame without its MIC, from the start of out; answers its length.
 fn fill(d: DataParts, commands: &[u8], payload: &[u8], out: &mut [u8]) -> usize
-    requires { ⌜ dataRefusal d (now commands) (now payload) (length (now out)) ≡ 0 ⌝ }
-    ensures { λ r. ⌜ Put (now (out .entry)) 0 (clearData d (now (commands .entry)) (now (payload .entry))) r (now (out .exit)) ⌝ }
+    requires { dataRefusal d commands.now payload.now (length out.old) ≡ 0 }
+    ensures { Put out.old 0 (clearData d commands.now payload.now) result out.new }
 {
     let port = d.port;
     match port {
@@ -165,10 +155,9 @@ fn fill(d: DataParts, commands: &[u8], payload: &[u8], out: &mut [u8]) -> usize
 // Fills a data frame in (4.3), clear and without its MIC, at the start of out, and answers the length of that. Commands go into
 // FOpts, on port 0 into the payload. No key is needed; sealing makes the frame of what was filled.
 pub fn fill_data(d: DataParts, commands: &[u8], payload: &[u8], out: &mut [u8]) -> Built
-    ensures { λ r.
-        ⌜ Builds (refused (dataRefusal d (now (commands .entry)) (now (payload .entry)) (length (now (out .entry)))))
-        (clearData d (now (commands .entry)) (now (payload .entry))) (now (out .entry)) r (now (out .exit)) ⌝ }
-    ensures { λ _. ⌜ DataGiven d ⌝ }
+    ensures builds { Builds (refused (dataRefusal d commands.now payload.now (length out.old)))
+        (clearData d commands.now payload.now) out.old result out.new }
+    ensures data_given { DataGiven d }
 {
     let refusal = data_refusal(d, commands, payload, out.len());
     if refusal != 0 {
@@ -190,11 +179,10 @@ pub fn build_data(
     app_skey: [u8; 16],
     out: &mut [u8],
 ) -> Built
-    ensures { λ r.
-        ⌜ Builds (refused (dataRefusal d (now (commands .entry)) (now (payload .entry)) (length (now (out .entry)))))
-        (dataFrame «nwk_skey» «app_skey» d (now (commands .entry)) (now (payload .entry))) (now (out .entry)) r
-        (now (out .exit)) ⌝ }
-    ensures { λ _. ⌜ DataGiven d ⌝ }
+    ensures builds { Builds (refused (dataRefusal d commands.now payload.now (length out.old)))
+        (dataFrame nwk_skey app_skey d commands.now payload.now) out.old result
+        out.new }
+    ensures data_given { DataGiven d }
 {
     let filled = fill_data(d, commands, payload, out);
     let Built::Frame(length) = filled else {

@@ -1,27 +1,23 @@
 // Building the join messages (creator.rs of the crate). The fields go in by value, in one record to a kind of frame; channels
 // and output are lent. Nothing is remembered between calls.
-ghost use mathlib.Core.Path.{_≡_};
-ghost use Prim.Native.Nat.{_+_, _/_, _%_, _≤_, _<_};
-ghost use lib.ListN.{length, take};
-ghost use Rattle·base.specs.Storing.{Put};
-ghost use Rattle·frame_build·specs.specs.JoinBuilding.{acceptHead, cfListBytes, frequencyBytes, joinAcceptBody, joinAcceptLength, joinAcceptRefusal, joinRequestBody, joinRequestRefusal, listByte, tooHigh};
-ghost use Rattle·frame_build·specs.specs.GivenParts.{AcceptGiven, RequestGiven};
-ghost use Rattle·frame_build·specs.specs.JoinFrames.{joinAccept, joinRequest};
-ghost use Rattle·frame.specs.Refusals.{refused};
-ghost use Rattle·frame_security.specs.Built.{Builds};
-ghost use Rattle·frame_security.specs.Security.{joinMic};
-ghost use Rattle·base.specs.Bytes.{at};
-use frame::packet_length::JOIN_ACCEPT_LEN;
-use frame::packet_length::JOIN_ACCEPT_WITH_CFLIST_LEN;
-use frame::packet_length::JOIN_REQUEST_LEN;
-use frame::refusals::BUFFER_TOO_SHORT;
-use frame::refusals::INVALID_CHANNEL_LIST;
-use frame::refusals::Refusal;
+ghost use Rattle.std.specs.Prelude.{◌≡◌, ◌+◌, ◌/◌, ◌%◌, ◌≤◌, ◌<◌, length, take};
+ghost use Rattle.base.specs.Storing.{Put};
+ghost use Rattle.frame_build.specs.JoinBuilding.{acceptHead, cfListBytes, frequencyBytes, joinAcceptBody, joinAcceptLength, joinAcceptRefusal, joinRequestBody, joinRequestRefusal, listByte, tooHigh};
+ghost use Rattle.frame_build.specs.GivenParts.{AcceptGiven, RequestGiven};
+ghost use Rattle.frame_build.specs.JoinFrames.{joinAccept, joinRequest};
+ghost use Rattle.frame.specs.Refusals.{refused};
+ghost use Rattle.frame_security.specs.Built.{Builds};
+ghost use Rattle.frame_security.specs.Security.{joinMic};
+ghost use Rattle.base.specs.Bytes.{at};
+
+use frame::packet_length::{JOIN_ACCEPT_LEN, JOIN_ACCEPT_WITH_CFLIST_LEN, JOIN_REQUEST_LEN};
+use frame::refusals::{BUFFER_TOO_SHORT, INVALID_CHANNEL_LIST, Refusal};
 use frame_security::ecb::each_block;
 use frame_security::sealing::Built;
 use frame_security::securityhelpers::calculate_mic;
 
 // A join-request (6.2.4), each field in frame order.
+#[derive(Drop)]
 pub struct JoinRequestParts {
     pub app_eui: [u8; 8],
     pub dev_eui: [u8; 8],
@@ -29,6 +25,7 @@ pub struct JoinRequestParts {
 }
 
 // A join-accept (6.2.5), each field in frame order. Where with_c_f_list is false, no channel is looked at.
+#[derive(Drop)]
 pub struct JoinAcceptParts {
     pub app_nonce: [u8; 3],
     pub net_id: [u8; 3],
@@ -40,7 +37,7 @@ pub struct JoinAcceptParts {
 
 // MHDR, AppNonce, NetID, DevAddr, DLSettings and RxDelay of a join-accept (6.2.5).
 fn accept_head(j: JoinAcceptParts) -> [u8; 13]
-    ensures { λ r. ⌜ r ≡ acceptHead j ⌝ }
+    ensures { result ≡ acceptHead j }
 {
     let n = j.app_nonce;
     let i = j.net_id;
@@ -64,7 +61,7 @@ fn accept_head(j: JoinAcceptParts) -> [u8; 13]
 
 // The channel at an index, and 0 past the end.
 fn channel_at(channels: &[u32], i: usize) -> u32
-    ensures { λ r. ⌜ r ≡ at (now (channels .entry)) i ⌝ }
+    ensures { result ≡ at channels.now i }
 {
     if i < channels.len() {
         return channels[i];
@@ -74,7 +71,7 @@ fn channel_at(channels: &[u32], i: usize) -> u32
 
 // A channel as three bytes, low byte first.
 fn frequency_at(channels: &[u32], i: usize) -> [u8; 3]
-    ensures { λ r. ⌜ r ≡ frequencyBytes (at (now (channels .entry)) i) ⌝ }
+    ensures { result ≡ frequencyBytes (at channels.now i) }
 {
     let c = channel_at(channels, i);
     let low = (c % 256) as u8;
@@ -85,7 +82,7 @@ fn frequency_at(channels: &[u32], i: usize) -> [u8; 3]
 
 // The byte of a list at an index: three of each channel, then the list's type 0.
 fn list_byte(channels: &[u32], i: usize) -> u8
-    ensures { λ r. ⌜ r ≡ listByte (now (channels .entry)) i ⌝ }
+    ensures { result ≡ listByte channels.now i }
 {
     if i < 15 {
         let frequency = frequency_at(channels, i / 3);
@@ -96,7 +93,7 @@ fn list_byte(channels: &[u32], i: usize) -> u8
 
 // Five channels, absent ones 0, and the list's type 0.
 fn cf_list_bytes(channels: &[u32]) -> [u8; 16]
-    ensures { λ r. ⌜ r ≡ cfListBytes (now (channels .entry)) ⌝ }
+    ensures { result ≡ cfListBytes channels.now }
 {
     let mut r = [0u8; 16];
     let mut i: usize = 0;
@@ -109,7 +106,7 @@ fn cf_list_bytes(channels: &[u32]) -> [u8; 16]
 
 // Whether a channel does not fit 24 bits.
 fn too_high(channels: &[u32]) -> bool
-    ensures { λ r. ⌜ r ≡ tooHigh (now (channels .entry)) ⌝ }
+    ensures { result ≡ tooHigh channels.now }
 {
     let mut i: usize = 0;
     while i < channels.len() {
@@ -123,7 +120,7 @@ fn too_high(channels: &[u32]) -> bool
 
 // The refusal of join-accept building by its number, 0 where there is none.
 fn join_accept_refusal(j: JoinAcceptParts, channels: &[u32], room: usize) -> u8
-    ensures { λ r. ⌜ r ≡ joinAcceptRefusal j (now (channels .entry)) room ⌝ }
+    ensures { result ≡ joinAcceptRefusal j channels.now room }
 {
     if j.with_c_f_list {
         if 5 < channels.len() {
@@ -147,8 +144,8 @@ fn join_accept_refusal(j: JoinAcceptParts, channels: &[u32], room: usize) -> u8
 
 // Stores the MIC of a join message's first n bytes behind them, and answers the place past it.
 fn sign(out: &mut [u8], n: usize, app_key: [u8; 16]) -> usize
-    requires { ⌜ (13 ≤ n) × (n + 4 ≤ length (now out)) ⌝ }
-    ensures { λ r. ⌜ Put (now (out .entry)) n (joinMic «app_key» (take n (now (out .entry)))) r (now (out .exit)) ⌝ }
+    requires { (13 ≤ n) × (n + 4 ≤ length out.old) }
+    ensures { Put out.old n (joinMic app_key (take n out.old)) result out.new }
 {
     let mic = calculate_mic(app_key, &out[..n]);
     base::storing::put(out, n, &mic)
@@ -158,8 +155,8 @@ const JOIN_REQUEST_MHDR: u8 = 0;
 
 // The join-request without its MIC, from the start of out; answers its length.
 fn fill_request(j: JoinRequestParts, out: &mut [u8]) -> usize
-    requires { ⌜ 23 ≤ length (now out) ⌝ }
-    ensures { λ r. ⌜ Put (now (out .entry)) 0 (joinRequestBody j) r (now (out .exit)) ⌝ }
+    requires { 23 ≤ length out.old }
+    ensures { Put out.old 0 (joinRequestBody j) result out.new }
 {
     let first = [JOIN_REQUEST_MHDR];
     let app_eui = j.app_eui;
@@ -173,10 +170,9 @@ fn fill_request(j: JoinRequestParts, out: &mut [u8]) -> usize
 
 // Builds a join-request (6.2.4) at the start of out.
 pub fn build_join_request(j: JoinRequestParts, app_key: [u8; 16], out: &mut [u8]) -> Built
-    ensures { λ r.
-        ⌜ Builds (refused (joinRequestRefusal (length (now (out .entry))))) (joinRequest «app_key» j) (now (out .entry)) r
-        (now (out .exit)) ⌝ }
-    ensures { λ _. ⌜ RequestGiven j ⌝ }
+    ensures builds { Builds (refused (joinRequestRefusal (length out.old))) (joinRequest app_key j) out.old result
+        out.new }
+    ensures request_given { RequestGiven j }
 {
     if out.len() < JOIN_REQUEST_LEN {
         return Built::Refused(Refusal {
@@ -191,8 +187,8 @@ pub fn build_join_request(j: JoinRequestParts, app_key: [u8; 16], out: &mut [u8]
 
 // The clear join-accept without its MIC, from the start of out; answers its length.
 fn fill_accept(j: JoinAcceptParts, channels: &[u32], out: &mut [u8]) -> usize
-    requires { ⌜ joinAcceptLength j ≤ length (now out) ⌝ }
-    ensures { λ r. ⌜ Put (now (out .entry)) 0 (joinAcceptBody j (now (channels .entry))) r (now (out .exit)) ⌝ }
+    requires { joinAcceptLength j ≤ length out.old }
+    ensures { Put out.old 0 (joinAcceptBody j channels.now) result out.new }
 {
     let head = accept_head(j);
     let a = base::storing::put(out, 0, &head);
@@ -210,10 +206,9 @@ pub fn build_join_accept(
     app_key: [u8; 16],
     out: &mut [u8],
 ) -> Built
-    ensures { λ r.
-        ⌜ Builds (refused (joinAcceptRefusal j (now (channels .entry)) (length (now (out .entry)))))
-        (joinAccept «app_key» j (now (channels .entry))) (now (out .entry)) r (now (out .exit)) ⌝ }
-    ensures { λ _. ⌜ AcceptGiven «app_key» j ⌝ }
+    ensures builds { Builds (refused (joinAcceptRefusal j channels.now (length out.old)))
+        (joinAccept app_key j channels.now) out.old result out.new }
+    ensures accept_given { AcceptGiven app_key j }
 {
     let refusal = join_accept_refusal(j, channels, out.len());
     if refusal != 0 {

@@ -1,18 +1,18 @@
 // The parts of a frame from numbers and bytes, and the answer of a building.
-ghost use mathlib.Core.Path.{_≡_};
-ghost use Rattle·frame_c·specs.specs.CAnswers.{builtAnswer};
-ghost use Rattle·frame_c·specs.specs.CGiven.{acceptParts, portGivenBy, dataParts};
+ghost use Rattle.std.specs.Prelude.{◌≡◌};
+ghost use Rattle.frame_c.specs.CAnswers.{builtAnswer};
+ghost use Rattle.frame_c.specs.CGiven.{acceptParts, portGivenBy, dataParts};
+
 use crate::conversions::answers::refusal_answer;
 use frame::packed::numbered_bits;
 use frame::parser::FPort;
-use frame_bits::fctrl::is_confirmed;
-use frame_bits::fctrl::is_uplink;
+use frame_bits::fctrl::{is_confirmed, is_uplink};
 use frame_build::creator::data_frame::DataParts;
 use frame_build::creator::join::JoinAcceptParts;
 use frame_security::sealing::Built;
 
 pub(crate) fn built_answer(built: Built) -> u64
-    ensures { λ r. ⌜ r ≡ builtAnswer built ⌝ }
+    ensures { result ≡ builtAnswer built }
 {
     match built {
         Built::Frame(n) => numbered_bits(0, n),
@@ -22,7 +22,7 @@ pub(crate) fn built_answer(built: Built) -> u64
 
 // The fixed fields of a join-accept, in frame order.
 pub(crate) fn accept_parts(f: [u8; 12], with_list: bool) -> JoinAcceptParts
-    ensures { λ r. ⌜ r ≡ acceptParts f «with_list» ⌝ }
+    ensures { result ≡ acceptParts f with_list }
 {
     let app_nonce = [f[0], f[1], f[2]];
     let net_id = [f[3], f[4], f[5]];
@@ -39,7 +39,7 @@ pub(crate) fn accept_parts(f: [u8; 12], with_list: bool) -> JoinAcceptParts
 
 // A number above 255 says that there is no port.
 fn port_of(port: u16) -> FPort
-    ensures { λ r. ⌜ r ≡ portGivenBy port ⌝ }
+    ensures { result ≡ portGivenBy port }
 {
     if port < 256 {
         return FPort::Port(port as u8);
@@ -54,7 +54,7 @@ pub(crate) fn data_parts(
     counter: u32,
     port: u16,
 ) -> DataParts
-    ensures { λ r. ⌜ r ≡ dataParts kind «dev_addr» fctrl counter port ⌝ }
+    ensures { result ≡ dataParts kind dev_addr fctrl counter port }
 {
     let confirmed = is_confirmed(kind);
     let uplink = is_uplink(kind);

@@ -1,5 +1,6 @@
 // Two session keys in 32 bytes.
-ghost use Rattle·frame_c·specs.specs.CStored.{KeysInto};
+ghost use Rattle.frame_c.specs.CStored.{KeysInto};
+
 use crate::conversions::storing::or_short;
 use base::storing::put;
 use frame::packed::numbered_bits;
@@ -9,7 +10,7 @@ const SESSION_KEYS_LEN: usize = 32;
 
 // Stores two session keys that are derived, where there is room for them.
 pub(crate) fn store_keys(session: SessionKeys, keys: &mut [u8]) -> u64
-    ensures { λ r. ⌜ KeysInto session (now (keys .entry)) r (now (keys .exit)) ⌝ }
+    ensures { KeysInto session keys.old result keys.new }
 {
     let refusal = session.refusal;
     let number = or_short(refusal.number, SESSION_KEYS_LEN, keys.len());

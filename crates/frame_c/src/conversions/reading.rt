@@ -1,16 +1,12 @@
 // The fields of the join messages in bytes.
-ghost use mathlib.Core.Path.{_≡_};
-ghost use Prim.Native.Nat.{_+_, _≤_};
-ghost use lib.ListN.{length};
-ghost use Rattle·base.specs.Storing.{Put};
-ghost use Rattle·frame.specs.JoinFields.{listNumber};
-ghost use Rattle·frame_c·specs.specs.CStored.{requestBytes, RequestInto, fourEach, acceptFixed, AcceptInto};
+ghost use Rattle.std.specs.Prelude.{◌≡◌, ◌+◌, ◌≤◌, length};
+ghost use Rattle.base.specs.Storing.{Put};
+ghost use Rattle.frame.specs.JoinFields.{listNumber};
+ghost use Rattle.frame_c.specs.CStored.{requestBytes, RequestInto, fourEach, acceptFixed, AcceptInto};
+
 use crate::conversions::storing::or_short;
-use base::storing::four_bytes;
-use base::storing::put;
-use frame::join_fields::CfList;
-use frame::join_fields::JoinAcceptFields;
-use frame::join_fields::JoinRequestFields;
+use base::storing::{four_bytes, put};
+use frame::join_fields::{CfList, JoinAcceptFields, JoinRequestFields};
 use frame::packed::numbered_bits;
 
 const REQUEST_FIELDS_LEN: usize = 22;
@@ -19,8 +15,8 @@ const ACCEPT_FIELDS_LEN: usize = 42;
 
 // The fields of a join-request from the start of out; answers the place past them.
 fn put_request(fields: JoinRequestFields, out: &mut [u8]) -> usize
-    requires { ⌜ 22 ≤ length (now out) ⌝ }
-    ensures { λ r. ⌜ Put (now (out .entry)) 0 (requestBytes fields) r (now (out .exit)) ⌝ }
+    requires { 22 ≤ length out.old }
+    ensures { Put out.old 0 (requestBytes fields) result out.new }
 {
     let app_eui = fields.app_eui;
     let dev_eui = fields.dev_eui;
@@ -34,7 +30,7 @@ fn put_request(fields: JoinRequestFields, out: &mut [u8]) -> usize
 
 // Stores the fields of a join-request, where it is one and there is room for them.
 pub(crate) fn store_request(fields: JoinRequestFields, out: &mut [u8]) -> u64
-    ensures { λ r. ⌜ RequestInto fields (now (out .entry)) r (now (out .exit)) ⌝ }
+    ensures { RequestInto fields out.old result out.new }
 {
     let refusal = fields.refusal;
     let number = or_short(refusal.number, REQUEST_FIELDS_LEN, out.len());
@@ -47,7 +43,7 @@ pub(crate) fn store_request(fields: JoinRequestFields, out: &mut [u8]) -> u64
 
 // Which list a join-accept holds: 0 none, 1 frequencies, 2 masks.
 fn list_number(list: CfList) -> u8
-    ensures { λ r. ⌜ r ≡ listNumber list ⌝ }
+    ensures { result ≡ listNumber list }
 {
     match list {
         CfList::Absent => 0,
@@ -58,8 +54,8 @@ fn list_number(list: CfList) -> u8
 
 // All of a join-accept but the frequencies, from the start of out; answers the place past it.
 fn put_fixed(fields: JoinAcceptFields, out: &mut [u8]) -> usize
-    requires { ⌜ 22 ≤ length (now out) ⌝ }
-    ensures { λ r. ⌜ Put (now (out .entry)) 0 (acceptFixed fields) r (now (out .exit)) ⌝ }
+    requires { 22 ≤ length out.old }
+    ensures { Put out.old 0 (acceptFixed fields) result out.new }
 {
     let app_nonce = fields.app_nonce;
     let net_id = fields.net_id;
@@ -77,8 +73,8 @@ fn put_fixed(fields: JoinAcceptFields, out: &mut [u8]) -> usize
 
 // Five frequencies of four bytes each, low byte first, from a place on; answers the place past them.
 fn put_frequencies(out: &mut [u8], at: usize, frequencies: [u32; 5]) -> usize
-    requires { ⌜ at + 20 ≤ length (now out) ⌝ }
-    ensures { λ r. ⌜ Put (now (out .entry)) at (fourEach 5 frequencies) r (now (out .exit)) ⌝ }
+    requires { at + 20 ≤ length out.old }
+    ensures { Put out.old at (fourEach 5 frequencies) result out.new }
 {
     let mut end = at;
     let mut i: usize = 0;
@@ -92,7 +88,7 @@ fn put_frequencies(out: &mut [u8], at: usize, frequencies: [u32; 5]) -> usize
 
 // Stores the fields of a join-accept, where it is one and there is room for them.
 pub(crate) fn store_accept(fields: JoinAcceptFields, out: &mut [u8]) -> u64
-    ensures { λ r. ⌜ AcceptInto fields (now (out .entry)) r (now (out .exit)) ⌝ }
+    ensures { AcceptInto fields out.old result out.new }
 {
     let refusal = fields.refusal;
     let number = or_short(refusal.number, ACCEPT_FIELDS_LEN, out.len());

@@ -1,11 +1,12 @@
 // Whether there is room for an answer of several bytes.
-ghost use mathlib.Core.Path.{_≡_};
-ghost use Rattle·frame_c·specs.specs.CAnswers.{orShort};
+ghost use Rattle.std.specs.Prelude.{◌≡◌};
+ghost use Rattle.frame_c.specs.CAnswers.{orShort};
+
 use frame::refusals::BUFFER_TOO_SHORT;
 
 // A refusal if there is one, then 7 where there is no room for the bytes.
 pub(crate) fn or_short(refusal: u8, bytes: usize, room: usize) -> u8
-    ensures { λ r. ⌜ r ≡ orShort refusal bytes room ⌝ }
+    ensures { result ≡ orShort refusal bytes room }
 {
     if refusal != 0 {
         return refusal;

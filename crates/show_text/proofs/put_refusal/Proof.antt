@@ -3,30 +3,30 @@
 use mathlib.Core.Path.{ap}
 use Prim.Native.Nat.{ℕ}
 use native.Mathlib.Omega.{arith}
-use borrow.Author.Needs.{needs}
-use Rattle·base.proofs.Put.{same}
-use Rattle·show_text·specs.specs.Text.{refusedWord, atWord, pairLine, refusalText}
-use Rattle·show_text·proofs.proofs.Lengths.{length-refusalLine}
-use Rattle·show_text·proofs.proofs.put_refusal.Statement.{statement}
-use Rattle·show_text·proofs.proofs.put_refusal.Tie as tie
+use borrow.Author.Rules.{rules}
+use Rattle.base.proofs.Put.{same}
+use Rattle.show_text.specs.Text.{refusedWord, atWord, pairLine, refusalText}
+use Rattle.show_text.proofs.Lengths.{length-refusalLine}
+use Rattle.show_text.proofs.put_refusal.Statement.{statement}
+use Rattle.show_text.proofs.put_refusal.Tie as tie
 
 put-pair-line-requires : tie.Need-put-pair-line-requires
 put-pair-line-requires c κs =
-    let start = c .before .before .before .before .before in
-    omega (arith, start .pre, length-refusalLine (c .before .wide .result) (start .args .refusal .place))
+    let start = c.before.before.before.before.before in
+    omega (arith, start.requires, length-refusalLine c.before.wide.result start.args.refusal.place)
 
 returns : tie.Need-returns
 unfolding refusalText
 returns c =
-    let at-wide = c .before .before .before .before in
-    let start = at-wide .before .before .before .before in
-    same (ap (λ (n : ℕ). pairLine refusedWord n atWord (start .args .refusal .place)) (at-wide .wide .ensures)) (c .before .before .put-pair-line .ensures)
+    let at_wide = c.before.before.before.before in
+    let start = at_wide.before.before.before.before in
+    same (ap (λ (n : ℕ). pairLine refusedWord n atWord start.args.refusal.place) at_wide.wide.ensures) c.before.before.put-pair-line.ensures
 
 pub put-refusal-spec : {M : Type 1} → statement M
 put-refusal-spec =
     tie.close
     (tie.spec
-    (λ c. search needs) (λ c κs. search needs) (λ c. search needs)
+    (λ c. search rules) (λ c κs. search rules) (λ c. search rules)
     put-pair-line-requires
-    (λ c. search needs)
+    (λ c. search rules)
     returns)

@@ -1,52 +1,52 @@
 -- No byte of a frame differs after a list of amendments but those that accepted ones name and the MIC: the header stays,
 -- and a payload byte that is not named has the same clear value, and so the same encrypted one.
 -- Assumes nothing.
-use mathlib.Core.Path.{_≡_, refl, sym, ap, _∙_, subst}
-use mathlib.Core.List.{List, [], _∷_}
-use Prim.Native.Nat.{ℕ, _+_, _-_, _<_}
+use mathlib.Core.Path.{◌≡◌, refl, sym, ap, ◌∙◌, subst}
+use mathlib.Core.List.{List, [], ◌∷◌}
+use Prim.Native.Nat.{ℕ, ◌+◌, ◌-◌, ◌<◌}
 use native.Mathlib.Omega.{arith}
 use lib.Dec.{ltb}
 use lib.ListN.{length, set}
-use lib.Seq.{getD-set-other}
-use Rattle·base.specs.Bytes.{pick, at, _⊕_}
-use Rattle·base.proofs.Cases.{by-order}
-use Rattle·base.proofs.Parts.{at-part}
-use Rattle·frame.specs.Layout.{payloadEnd, headerEnd, header, payload}
-use Rattle·aes.specs.KeyExpansion.{keyExpansion}
-use Rattle·frame_security.specs.Security.{streamAt, frameKey}
-use Rattle·frame.proofs.LayoutLaws.{placed, length-payload}
-use Rattle·frame_security.proofs.SecurityLaws.{crypted-at, crypted-long, crypted-twice}
-use Rattle·amend.specs.declared.amending.Open.{Open}
-use Rattle·amend.specs.OpenFrame.{openedOf, openOf}
-use Rattle·frame_security.specs.Sealing.{clearOf}
-use Rattle·amend.specs.AmendmentLists.{Amendment, amendedBy, payloadBy}
-use Rattle·amend.proofs.Accepted.{Accepted, opens-accepted}
-use Rattle·amend.proofs.OneByte.{held-at}
-use Rattle·frame_security.proofs.SealedFrames.{clear-long, sealed-long, sealed-at, sealed-payload, sealed-end}
-use Rattle·amend.proofs.Demand3.{one-long, one-inside, one-outside, after, after-accepted, payload-same, state-after}
+use lib.Seq.{get_or-set_other}
+use Rattle.base.specs.Bytes.{pick, at, ◌⊕◌}
+use Rattle.base.proofs.Cases.{by_order}
+use Rattle.base.proofs.Parts.{at_part}
+use Rattle.frame.specs.Layout.{payloadEnd, headerEnd, header, payload}
+use Rattle.aes.specs.KeyExpansion.{keyExpansion}
+use Rattle.frame_security.specs.Security.{streamAt, frameKey}
+use Rattle.frame.proofs.LayoutLaws.{placed, length-payload}
+use Rattle.frame_security.proofs.SecurityLaws.{crypted-at, crypted-long, crypted-twice}
+use Rattle.amend.specs.declared.amending.Open.{Open}
+use Rattle.amend.specs.OpenFrame.{opened_of, openOf}
+use Rattle.frame_security.specs.Sealing.{clearOf}
+use Rattle.amend.specs.AmendmentLists.{Amendment, amendedBy, payloadBy}
+use Rattle.amend.proofs.Accepted.{Accepted, opens-accepted}
+use Rattle.amend.proofs.OneByte.{held_at}
+use Rattle.frame_security.proofs.SealedFrames.{clear-long, sealed-long, sealed-at, sealed-payload, sealed-end}
+use Rattle.amend.proofs.Demand3.{one-long, one_inside, one_outside, after, after-accepted, payload_same, state-after}
 
 -- no amendment of the list that is accepted, with n bytes of payload, names byte j of it
 abbrev pub Unnamed : ℕ → ℕ → List Amendment → Type 0
 Unnamed n j [] = Unit
-Unnamed n j (a ∷ list) = (a .offset < n → j ≡ a .offset → ⊥) × Unnamed n j list
+Unnamed n j (a ∷ list) = (a.offset < n → j ≡ a.offset → ⊥) × Unnamed n j list
 
-one-at : (p : List ℕ) (k v j : ℕ) → (k < length p → j ≡ k → ⊥) → at (pick (ltb k (length p)) (set p k v) p) j ≡ at p j
-one-at p k v j h =
-    by-order (length p) k (λ l. ap (λ (q : List ℕ). at q j) (one-outside p k v l))
-    (λ l. ap (λ (q : List ℕ). at q j) (one-inside p k v l) ∙ getD-set-other p k j v 0 (h l))
+one_at : (p : List ℕ) (k v j : ℕ) → (k < length p → j ≡ k → ⊥) → at (pick (ltb k (length p)) (set p k v) p) j ≡ at p j
+one_at p k v j h =
+    by_order (length p) k (λ l. ap (λ (q : List ℕ). at q j) (one_outside p k v l))
+    (λ l. ap (λ (q : List ℕ). at q j) (one_inside p k v l) ∙ get_or-set_other p k j v 0 (h l))
 
 payload-at : (p : List ℕ) (list : List Amendment) (j : ℕ) → Unnamed (length p) j list → at (payloadBy p list) j ≡ at p j
 unfolding payloadBy
 payload-at p [] j u = refl
 payload-at p (a ∷ list) j u =
-    let q = pick (ltb (a .offset) (length p)) (set p (a .offset) (a .value)) p in
-    let long : length q ≡ length p = one-long (ltb (a .offset) (length p)) p (a .offset) (a .value) in
-    payload-at q list j (subst (λ (n : ℕ). Unnamed n j list) (sym long) (u .1)) ∙ one-at p (a .offset) (a .value) j (u .0)
+    let q = pick (ltb a.offset (length p)) (set p a.offset a.value) p in
+    let long : length q ≡ length p = one-long (ltb a.offset (length p)) p a.offset a.value in
+    payload-at q list j (subst (λ (n : ℕ). Unnamed n j list) (sym long) u.1) ∙ one_at p a.offset a.value j u.0
 
 -- a payload byte in the frame
-in-frame : (f : List ℕ) (j : ℕ) → j < length (payload f) → at f (headerEnd f + j) ≡ at (payload f) j
-in-frame f j h =
-    sym (at-part (headerEnd f) (payloadEnd f - headerEnd f) f j (omega (arith, length-payload f)))
+in_frame : (f : List ℕ) (j : ℕ) → j < length (payload f) → at f (headerEnd f + j) ≡ at (payload f) j
+in_frame f j h =
+    sym (at_part (headerEnd f) (payloadEnd f - headerEnd f) f j (omega (arith, length-payload f)))
 
 -- what stays of the frame f in the bytes g after a list
 pub record Keeps (f : List ℕ) (list : List Amendment) (g : List ℕ) : Type 0 where
@@ -62,48 +62,48 @@ module _ (f nwk app : List ℕ) (counter : ℕ) (a : Accepted f nwk counter) (li
   g = after nwk app counter f list
 
   same : length p ≡ length (payload f)
-  same = payload-same f nwk app counter list
+  same = payload_same f nwk app counter list
 
-  held-byte : (i : ℕ) → i < length f → at (openedOf g nwk app counter .frame) i ≡ at g i
-  unfolding openedOf
+  held-byte : (i : ℕ) → i < length f → at (opened_of g nwk app counter).frame i ≡ at g i
+  unfolding opened_of
   held-byte i h =
-      held-at g (after-accepted f nwk app counter a list .data-frame .most) i
-      (omega (arith, sealed-long f nwk app counter (a .data-frame) p same))
+      held_at g (after-accepted f nwk app counter a list).data-frame.most i
+      (omega (arith, sealed-long f nwk app counter a.data-frame p same))
 
   stays : (j : ℕ) → j < length (payload f) → Unnamed (length (payload f)) j list → at g (headerEnd f + j) ≡ at f (headerEnd f + j)
   stays j h u =
       let key = frameKey f nwk app in
       let clear = clearOf f nwk app counter in
-      let d = a .data-frame in
+      let d = a.data-frame in
       let end = sealed-end f nwk app counter d p same in
       let made = sealed-payload f nwk app counter d p same in
       let named : Unnamed (length clear) j list = subst (λ (n : ℕ). Unnamed n j list) (sym (clear-long f nwk app counter)) u in
       ap (λ (n : ℕ). at g (n + j)) (sym end)
-      ∙ in-frame g j (omega (arith, ap length made, crypted-long key (header f) counter p, same))
+      ∙ in_frame g j (omega (arith, ap length made, crypted-long key (header f) counter p, same))
       ∙ ap (λ (l : List ℕ). at l j) made
       ∙ crypted-at key (header f) counter p j (omega (arith, same))
       ∙ ap (λ (n : ℕ). n ⊕ streamAt (keyExpansion key) (header f) counter j) (payload-at clear list j named)
       ∙ sym (crypted-at key (header f) counter clear j (omega (arith, clear-long f nwk app counter)))
       ∙ ap (λ (l : List ℕ). at l j) (crypted-twice key (header f) counter (payload f))
-      ∙ sym (in-frame f j h)
+      ∙ sym (in_frame f j h)
 
   -- in the frame sealed anew
   pub sealed-keeps : Keeps f list g
-  sealed-keeps = record { ahead = sealed-at f nwk app counter (a .data-frame) p same; others = stays }
+  sealed-keeps = record { ahead = sealed-at f nwk app counter a.data-frame p same; others = stays }
 
   -- and in the state that holds it
-  kept : Keeps f list (openedOf g nwk app counter .frame)
+  kept : Keeps f list (opened_of g nwk app counter).frame
   kept =
-      let d = a .data-frame in
+      let d = a.data-frame in
       record {
-        ahead = λ i h. held-byte i (omega (arith, placed f d .payload, placed f d .mic)) ∙ sealed-keeps .ahead i h;
+        ahead = λ i h. held-byte i (omega (arith, (placed f d).payload, (placed f d).mic)) ∙ sealed-keeps.ahead i h;
         others = λ j h u.
-            held-byte (headerEnd f + j) (omega (arith, length-payload f, placed f d .payload, placed f d .mic)) ∙ stays j h u;
+            held-byte (headerEnd f + j) (omega (arith, length-payload f, (placed f d).payload, (placed f d).mic)) ∙ stays j h u;
       }
 
 -- for every accepted opening and every list
-pub keeps : (f nwk app : List ℕ) (counter : ℕ) → openOf f nwk app counter .refusal .number ≡ 0 → (list : List Amendment)
-    → Keeps f list (amendedBy (openOf f nwk app counter .state) list .frame)
+pub keeps : (f nwk app : List ℕ) (counter : ℕ) → (openOf f nwk app counter).refusal.number ≡ 0 → (list : List Amendment)
+    → Keeps f list (amendedBy (openOf f nwk app counter).state list).frame
 keeps f nwk app counter e list =
-    subst (λ (s : Open). Keeps f list (s .frame)) (sym (state-after f nwk app counter e list))
+    subst (λ (s : Open). Keeps f list s.frame) (sym (state-after f nwk app counter e list))
     (kept f nwk app counter (opens-accepted f nwk app counter e) list)

@@ -1,16 +1,16 @@
 -- The cipher with each inverse taken from the list of all 256: it gives the same block, and is computed five times
 -- sooner.
 -- Assumes nothing.
-use mathlib.Core.Path.{_≡_, refl, ap, _∙_}
+use mathlib.Core.Path.{◌≡◌, refl, ap, ◌∙◌}
 use mathlib.Core.List.{List}
 use Prim.Native.Nat.{ℕ, zero, suc}
-use Rattle·base.specs.Bytes.{tab, at, AreBytes}
-use Rattle·base.proofs.Each.{Each, each}
-use Rattle·base.proofs.Tab.{tab-ext}
-use Rattle·aes.specs.Field.{affine, sub}
-use Rattle·aes.proofs.Inverses.{inverses, inverse-listed}
-use Rattle·aes.specs.Fips197.{subBytes, shiftRows, mixColumns, addRoundKey, round, rounds, cipher}
-use Rattle·aes.proofs.Undone.{mixColumns-block, addRoundKey-block}
+use Rattle.base.specs.Bytes.{tab, at, AreBytes}
+use Rattle.base.proofs.Each.{Each, each}
+use Rattle.base.proofs.Tab.{tab-ext}
+use Rattle.aes.specs.Field.{affine, sub}
+use Rattle.aes.proofs.Inverses.{inverses, inverse-listed}
+use Rattle.aes.specs.Fips197.{subBytes, shiftRows, mixColumns, addRoundKey, round, rounds, cipher}
+use Rattle.aes.proofs.Undone.{mixColumns-block, addRoundKey-block}
 
 unfoldable pub subListed : List ℕ → List ℕ
 subListed s = tab 16 (λ i. affine (at inverses (at s i)))
@@ -30,7 +30,7 @@ cipherListed w s = addRoundKey w 10 (shiftRows (subListed (roundsListed w 9 (add
 rounds-byte : (w : List ℕ) (n : ℕ) (s : List ℕ) → AreBytes w → AreBytes s → AreBytes (rounds w n s)
 unfolding rounds round
 rounds-byte w zero s hw hs = hs
-rounds-byte w (suc n) s hw hs = addRoundKey-block w (suc n) _ hw (mixColumns-block _ .byte) .byte
+rounds-byte w (suc n) s hw hs = (addRoundKey-block w (suc n) _ hw (mixColumns-block _).byte).byte
 
 rounds-listed : (w : List ℕ) (n : ℕ) (s : List ℕ) → AreBytes w → AreBytes s → rounds w n s ≡ roundsListed w n s
 unfolding rounds round roundsListed
@@ -43,7 +43,7 @@ rounds-listed w (suc n) s hw hs =
 pub by-list : (w s : List ℕ) {t : List ℕ} → AreBytes w → Each s → cipherListed w s ≡ t → cipher w s ≡ t
 unfolding cipher cipherListed
 by-list w s hw hs e =
-    let start = addRoundKey-block w 0 s hw (each s hs) .byte in
+    let start = (addRoundKey-block w 0 s hw (each s hs)).byte in
     ap (λ (t : List ℕ). addRoundKey w 10 (shiftRows t))
     (sub-listed _ (rounds-byte w 9 _ hw start) ∙ ap subListed (rounds-listed w 9 _ hw start))
     ∙ e

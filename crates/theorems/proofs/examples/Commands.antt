@@ -1,34 +1,34 @@
 -- MAC commands by example, computed from the definitions: commands that are read and written, each order of the refusals, and the
 -- lists of a frame.
 -- Assumes nothing.
-use mathlib.Core.Path.{_≡_, refl}
+use mathlib.Core.Path.{◌≡◌, refl}
 use mathlib.Core.Bool.{true, false}
-use mathlib.Core.List.{List, [], _∷_}
+use mathlib.Core.List.{List, [], ◌∷◌}
 use Prim.Native.Nat.{ℕ}
 use lib.IntN.{pos, negsuc}
-use Rattle·frame.specs.Reading.{portOf, payloadOf, dataOf, readData, readType, readOf}
-use Rattle·frame.specs.Refusals.{refusal, refused}
-use Rattle·mac_commands.specs.Commands.{marginOf, rawOf, commands, commandOf, fieldsAs, rawAt, rawStepAt, stepAt, rowBytes, bytesAs, putAs, writtenAs, commandWritten, fieldsWritten}
-use Rattle·mac_commands.specs.InFrame.{listsOf, inFrame, foptsCommands, payloadCommands}
-use Rattle·mac_commands.specs.Layout.{bitsOf, placeAt, widthAt, numberOf, fits, lowFirst, bytesOf, downs, ups, row, sizeOf}
-use Rattle·mac_commands.specs.Lists.{Placed, listFrom, listAt}
-use Rattle·mac_commands.specs.declared.in_frame.CommandLists.{CommandLists}
-use Rattle·mac_commands.specs.declared.in_frame.InFrame.the-variants.{Lists}
-use Rattle·mac_commands.specs.declared.maccommands.Command.{Command}
-use Rattle·mac_commands.specs.declared.maccommands.Command.the-variants.{LinkADRReq, RXParamSetupReq, LinkADRAns, DevStatusAns}
-use Rattle·mac_commands.specs.declared.maccommands.Step.the-variants.{Found, End, Refused}
-use Rattle·mac_commands.specs.declared.maccommandcreator.Written.the-variants.{Upto, Refused as Unwritten}
+use Rattle.frame.specs.Reading.{portOf, payloadOf, data_of, readData, readType, read_of}
+use Rattle.frame.specs.Refusals.{refusal, refused}
+use Rattle.mac_commands.specs.Commands.{marginOf, rawOf, commands, commandOf, fieldsAs, rawAt, rawStepAt, stepAt, rowBytes, bytesAs, putAs, writtenAs, commandWritten, fieldsWritten}
+use Rattle.mac_commands.specs.InFrame.{lists_of, inFrame, foptsCommands, payloadCommands}
+use Rattle.mac_commands.specs.Layout.{bits_of, placeAt, width_at, number_of, fits, low_first, bytes_of, downs, ups, row, size_of}
+use Rattle.mac_commands.specs.Lists.{Placed, list_from, listAt}
+use Rattle.mac_commands.specs.declared.in_frame.CommandLists.{CommandLists}
+use Rattle.mac_commands.specs.declared.in_frame.InFrame.TheVariants.{Lists}
+use Rattle.mac_commands.specs.declared.maccommands.Command.{Command}
+use Rattle.mac_commands.specs.declared.maccommands.Command.TheVariants.{LinkADRReq, RXParamSetupReq, LinkADRAns, DevStatusAns}
+use Rattle.mac_commands.specs.declared.maccommands.Step.TheVariants.{Found, End, Refused}
+use Rattle.mac_commands.specs.declared.maccommandcreator.Written.TheVariants.{Upto, Refused as Unwritten}
 
 -- ---- reading
 
 -- data rate 5, power 2, channels 0, 1, 2 and 8, control 3, once; the reserved bit of the last byte is set, and is ignored
 pub adr-request : stepAt false (0x03 ∷ 0x52 ∷ 0x07 ∷ 0x01 ∷ 0xB1 ∷ []) 0 ≡ Found (LinkADRReq 5 2 0x0107 3 1) 5
-unfolding row downs ups bitsOf sizeOf placeAt widthAt lowFirst commands commandOf rawAt rawStepAt stepAt
+unfolding row downs ups bits_of size_of placeAt width_at low_first commands commandOf rawAt rawStepAt stepAt
 adr-request = refl
 
 -- battery 255, margin -7
 pub status-answer : stepAt true (0x06 ∷ 0xFF ∷ 0x39 ∷ []) 0 ≡ Found (DevStatusAns 255 (negsuc 6)) 3
-unfolding row downs ups bitsOf sizeOf placeAt widthAt lowFirst marginOf commands commandOf rawAt rawStepAt stepAt
+unfolding row downs ups bits_of size_of placeAt width_at low_first marginOf commands commandOf rawAt rawStepAt stepAt
 status-answer = refl
 
 -- an unknown identifier that nothing follows is unknown, and not cut short
@@ -37,38 +37,38 @@ unfolding rawStepAt stepAt
 unknown-last = refl
 
 -- past the end is the end
-pub past-the-end : stepAt true (0x06 ∷ []) 2 ≡ End
+pub past_the_end : stepAt true (0x06 ∷ []) 2 ≡ End
 unfolding rawStepAt stepAt
-past-the-end = refl
+past_the_end = refl
 
 -- ---- a list: two commands, and a third that is cut short
 
-abbrev at-place : ℕ → Command → Placed
-at-place i c = record { place = i; command = c }
+abbrev at_place : ℕ → Command → Placed
+at_place i c = record { place = i; command = c }
 
 pub two-and-a-cut : listAt true (0x03 ∷ 0x06 ∷ 0x06 ∷ 0xFF ∷ 0x39 ∷ 0x07 ∷ []) 0
     ≡ record {
-      commands = at-place 0 (LinkADRAns 1 1 0) ∷ at-place 2 (DevStatusAns 255 (negsuc 6)) ∷ [];
+      commands = at_place 0 (LinkADRAns 1 1 0) ∷ at_place 2 (DevStatusAns 255 (negsuc 6)) ∷ [];
       end = Refused (refusal 17 5);
     }
-unfolding row downs ups bitsOf sizeOf placeAt widthAt lowFirst marginOf commands commandOf rawAt rawStepAt stepAt listFrom listAt
+unfolding row downs ups bits_of size_of placeAt width_at low_first marginOf commands commandOf rawAt rawStepAt stepAt list_from listAt
 two-and-a-cut = refl
 
 -- ---- writing
 
 -- offset 5, data rate 9, 869.1 MHz in units of 100 Hz
 pub window-request : bytesAs (RXParamSetupReq 5 9 8691000) ≡ 0x05 ∷ 0x59 ∷ 0x38 ∷ 0x9D ∷ 0x84 ∷ []
-unfolding row downs ups bitsOf sizeOf numberOf bytesOf fieldsAs rowBytes bytesAs
+unfolding row downs ups bits_of size_of number_of bytes_of fieldsAs rowBytes bytesAs
 window-request = refl
 
 -- the ends of the margin, and one past each: 18 goes before 7, so that it is given of no bytes too
 pub margin-ends : (commandWritten (DevStatusAns 0 (negsuc 31)) 3 0 ≡ Upto 3) × (commandWritten (DevStatusAns 0 (pos 31)) 3 0 ≡ Upto 3)
-unfolding row downs ups bitsOf sizeOf fits rawOf fieldsAs putAs writtenAs
+unfolding row downs ups bits_of size_of fits rawOf fieldsAs putAs writtenAs
 margin-ends = (refl, refl)
 
 pub margin-past : (commandWritten (DevStatusAns 0 (negsuc 32)) 0 0 ≡ Unwritten (refused 18))
     × (commandWritten (DevStatusAns 0 (pos 32)) 0 0 ≡ Unwritten (refused 18))
-unfolding row downs ups bitsOf sizeOf fits rawOf fieldsAs putAs writtenAs
+unfolding row downs ups bits_of size_of fits rawOf fieldsAs putAs writtenAs
 margin-past = (refl, refl)
 
 -- 16 goes before both
@@ -83,20 +83,20 @@ exampleFrame =
     0x40 ∷ 4 ∷ 3 ∷ 2 ∷ 1 ∷ 5 ∷ 5 ∷ 0 ∷ 0x03 ∷ 0x06 ∷ 0x06 ∷ 0xFF ∷ 0x39 ∷ 0 ∷ 0x07 ∷ 0x11 ∷ 0x22 ∷ 0x33 ∷ 0x44 ∷ []
 
 abbrev exampleLists : CommandLists
-exampleLists = record { uplink = true; «fopts_end» = 13; «on_port_0» = true; «payload_start» = 14; «payload_end» = 15 }
+exampleLists = record { uplink = true; fopts_end = 13; on_port_0 = true; payload_start = 14; payload_end = 15 }
 
 pub frame-lists : inFrame exampleFrame ≡ Lists exampleLists
-unfolding inFrame listsOf readOf readType readData dataOf portOf payloadOf
+unfolding inFrame lists_of read_of readType readData data_of portOf payloadOf
 frame-lists = refl
 
 pub frame-fopts : foptsCommands exampleLists exampleFrame
     ≡ record {
-      commands = at-place 8 (LinkADRAns 1 1 0) ∷ at-place 10 (DevStatusAns 255 (negsuc 6)) ∷ [];
+      commands = at_place 8 (LinkADRAns 1 1 0) ∷ at_place 10 (DevStatusAns 255 (negsuc 6)) ∷ [];
       end = End;
     }
-unfolding row downs ups bitsOf sizeOf placeAt widthAt lowFirst marginOf commands commandOf rawAt rawStepAt stepAt listFrom listAt
+unfolding row downs ups bits_of size_of placeAt width_at low_first marginOf commands commandOf rawAt rawStepAt stepAt list_from listAt
 frame-fopts = refl
 
 pub frame-payload : payloadCommands exampleLists exampleFrame ≡ record { commands = []; end = Refused (refusal 17 14) }
-unfolding row downs ups bitsOf sizeOf placeAt widthAt lowFirst marginOf commands commandOf rawAt rawStepAt stepAt listFrom listAt
+unfolding row downs ups bits_of size_of placeAt width_at low_first marginOf commands commandOf rawAt rawStepAt stepAt list_from listAt
 frame-payload = refl

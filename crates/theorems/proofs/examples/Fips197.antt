@@ -1,19 +1,19 @@
 -- The worked examples of FIPS 197, as statements about the definitions themselves: each side is computed. A schedule is
 -- computed once; the blocks under its key go on from it, with the inverses in the field listed (ByList).
 -- Assumes nothing.
-use mathlib.Core.Path.{_≡_, refl, sym, ap, _∙_}
+use mathlib.Core.Path.{◌≡◌, refl, sym, ap, ◌∙◌}
 use mathlib.Core.List.{List}
 use Prim.Native.Nat.{ℕ}
 use native.Mathlib.Omega.{arith}
-use Rattle·base.specs.Bytes.{at, AreBytes}
-use Rattle·base.proofs.Each.{each}
-use Rattle·aes.specs.Field.{xtime, mulBits, mul, squares, inverse, fromBits, affine, sub}
-use Rattle·aes.specs.KeyExpansion.{powerOfX, nextWord, words, keyExpansion}
-use Rattle·aes.specs.Fips197.{shiftRows, row, mixColumns, addRoundKey, cipher, invCipher}
-use Rattle·aes.proofs.ExpansionLaws.{schedule-byte}
-use Rattle·aes.proofs.CipherLaws.{invCipher-cipher}
-use Rattle·theorems·specs.specs.PrintedFips197.{key-B, schedule-A1, input-B, output-B, key-C1, schedule-C1, plain-C1, output-C1}
-use Rattle·theorems·proofs.proofs.examples.ByList.{subListed, roundsListed, cipherListed, by-list}
+use Rattle.base.specs.Bytes.{at, AreBytes}
+use Rattle.base.proofs.Each.{each}
+use Rattle.aes.specs.Field.{xtime, mulBits, mul, squares, inverse, fromBits, affine, sub}
+use Rattle.aes.specs.KeyExpansion.{powerOfX, nextWord, words, keyExpansion}
+use Rattle.aes.specs.Fips197.{shiftRows, row, mixColumns, addRoundKey, cipher, invCipher}
+use Rattle.aes.proofs.ExpansionLaws.{schedule-byte}
+use Rattle.aes.proofs.CipherLaws.{invCipher-cipher}
+use Rattle.theorems.specs.PrintedFips197.{key-B, schedule-A1, input-B, output-B, key-C1, schedule-C1, plain-C1, output-C1}
+use Rattle.theorems.proofs.examples.ByList.{subListed, roundsListed, cipherListed, by-list}
 
 -- ---- 4.2
 

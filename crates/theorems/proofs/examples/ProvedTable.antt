@@ -1,28 +1,28 @@
 -- The examples of docs/RULES.md, P1 to P17, for the definitions themselves: one statement over one list. Each row is
 -- computed.
 -- Assumes nothing.
-use mathlib.Core.Path.{_≡_, refl, ap}
+use mathlib.Core.Path.{◌≡◌, refl, ap}
 use mathlib.Core.Bool.{Bool}
-use mathlib.Core.List.{List, [], _∷_}
-use Prim.Native.Nat.{ℕ, _+_, _*_}
+use mathlib.Core.List.{List, [], ◌∷◌}
+use Prim.Native.Nat.{ℕ, ◌+◌, ◌*◌}
 use lib.ListN.{length}
-use Rattle·base.specs.Bytes.{tab}
-use Rattle·frame_build.specs.DataBuilding.{dataHeader, dataLength, dataRefusal, fixedHeader}
-use Rattle·frame_build.specs.DataFrames.{dataFrame}
-use Rattle·frame_security.specs.Built.{builtOf}
-use Rattle·frame_security.specs.Security.{fullCounter}
-use Rattle·frame_security.specs.declared.sealing.Built.{Built}
-use Rattle·frame.specs.Refusals.{refusal, refused}
-use Rattle·frame_security.specs.declared.sealing.Built.the-variants.{Frame, Refused as NotBuilt}
-use Rattle·frame_build.specs.declared.creator.data_frame.DataParts.{DataParts}
-use Rattle·frame_build.proofs.DataBuiltLaws.{frame-long}
-use Rattle·frame.specs.Reading.{portOf, payloadOf, dataOf, readJoinRequest, readJoinAccept, readData, readType, readOf}
-use Rattle·frame.specs.declared.parser.FPort.{FPort}
-use Rattle·frame.specs.declared.parser.FPort.the-variants.{Absent, Port}
-use Rattle·frame.specs.declared.parser.FrmPayload.{FrmPayload}
-use Rattle·frame.specs.declared.parser.FrmPayload.the-variants.{Nothing, Data as PlainData, MacCommands}
-use Rattle·frame.specs.declared.parser.Reading.{Reading}
-use Rattle·frame.specs.declared.parser.Reading.the-variants.{JoinRequest, JoinAccept, Data, Refused}
+use Rattle.base.specs.Bytes.{tab}
+use Rattle.frame_build.specs.DataBuilding.{dataHeader, dataLength, dataRefusal, fixedHeader}
+use Rattle.frame_build.specs.DataFrames.{dataFrame}
+use Rattle.frame_security.specs.Built.{builtOf}
+use Rattle.frame_security.specs.Security.{fullCounter}
+use Rattle.frame_security.specs.declared.sealing.Built.{Built}
+use Rattle.frame.specs.Refusals.{refusal, refused}
+use Rattle.frame_security.specs.declared.sealing.Built.TheVariants.{Frame, Refused as NotBuilt}
+use Rattle.frame_build.specs.declared.creator.data_frame.DataParts.{DataParts}
+use Rattle.frame_build.proofs.DataBuiltLaws.{frame-long}
+use Rattle.frame.specs.Reading.{portOf, payloadOf, data_of, readJoinRequest, readJoinAccept, readData, readType, read_of}
+use Rattle.frame.specs.declared.parser.FPort.{FPort}
+use Rattle.frame.specs.declared.parser.FPort.TheVariants.{Absent, Port}
+use Rattle.frame.specs.declared.parser.FrmPayload.{FrmPayload}
+use Rattle.frame.specs.declared.parser.FrmPayload.TheVariants.{Nothing, Data as PlainData, MacCommands}
+use Rattle.frame.specs.declared.parser.Reading.{Reading}
+use Rattle.frame.specs.declared.parser.Reading.TheVariants.{JoinRequest, JoinAccept, Data, Refused}
 
 -- what a row of building leaves open: keys, kind, address, the counter, and the bytes of commands and payload
 pub record Open : Type 0 where
@@ -36,19 +36,19 @@ pub record Open : Type 0 where
 abbrev pub onPortOne : Open → DataParts
 onPortOne o =
     record {
-      confirmed = o .confirmed;
-      uplink = o .uplink;
-      «dev_addr» = tab 4 (o .bytes);
+      confirmed = o.confirmed;
+      uplink = o.uplink;
+      dev_addr = tab 4 o.bytes;
       fctrl = 0;
-      fcnt = o .counter;
+      fcnt = o.counter;
       port = Port 1;
     }
 
 -- the answer of building into 255 bytes
-abbrev pub answerOf : Open → List ℕ → List ℕ → Built
-answerOf o commands payload =
+abbrev pub answer_of : Open → List ℕ → List ℕ → Built
+answer_of o commands payload =
     builtOf (refused (dataRefusal (onPortOne o) commands payload 255))
-    (length (dataFrame (o .nwk) (o .app) (onPortOne o) commands payload))
+    (length (dataFrame o.nwk o.app (onPortOne o) commands payload))
 
 -- reads: a frame, and the answer to it, whatever the bytes are that the example leaves open
 -- counts: a counter, a frame's FCnt, and the full counter
@@ -59,9 +59,9 @@ pub data Row : Type 0 where
   builds : ℕ → ℕ → Built → Row
 
 abbrev pub Holds : Row → Type 0
-Holds (reads f r) = (a : ℕ → ℕ) → readOf (f a) ≡ r a
+Holds (reads f r) = (a : ℕ → ℕ) → read_of (f a) ≡ r a
 Holds (counts c f r) = fullCounter c f ≡ r
-Holds (builds c b r) = (o : Open) → answerOf o (tab c (o .bytes)) (tab b (o .bytes)) ≡ r
+Holds (builds c b r) = (o : Open) → answer_of o (tab c o.bytes) (tab b o.bytes) ≡ r
 
 abbrev pub All : List Row → Type 0
 All [] = Unit
@@ -82,7 +82,7 @@ ported n b c p a = b ∷ a 1 ∷ a 2 ∷ a 3 ∷ a 4 ∷ c ∷ a 6 ∷ a 7 ∷ p
 -- an unconfirmed data frame up
 abbrev up : ℕ → ℕ → FPort → FrmPayload → ℕ → (ℕ → ℕ) → Reading
 up c e p d m a =
-    Data (record { mtype = 2; fctrl = c; fcnt = a 6 + a 7 * 256; «fopts_end» = e; port = p; payload = d; mic = m })
+    Data (record { mtype = 2; fctrl = c; fcnt = a 6 + a 7 * 256; fopts_end = e; port = p; payload = d; mic = m })
 
 abbrev answer : Reading → (ℕ → ℕ) → Reading
 answer r a = r
@@ -136,14 +136,14 @@ rows =
 
 -- a built frame is as long as its parts say
 long : (o : Open) (commands payload : List ℕ)
-    → answerOf o commands payload
+    → answer_of o commands payload
     ≡ builtOf (refused (dataRefusal (onPortOne o) commands payload 255)) (dataLength (onPortOne o) commands payload)
 long o commands payload =
     ap (builtOf (refused (dataRefusal (onPortOne o) commands payload 255)))
-    (frame-long (o .nwk) (o .app) (onPortOne o) commands payload)
+    (frame-long o.nwk o.app (onPortOne o) commands payload)
 
 pub table : All rows
-unfolding readOf readType readJoinRequest readJoinAccept readData dataOf portOf payloadOf fullCounter dataRefusal dataHeader fixedHeader
+unfolding read_of readType readJoinRequest readJoinAccept readData data_of portOf payloadOf fullCounter dataRefusal dataHeader fixedHeader
 table = (
   λ a. refl,
   (
@@ -162,7 +162,7 @@ table = (
                 λ a. refl,
                 (
                   λ a. refl,
-                  (λ a. refl, (λ a. refl, (λ a. refl, (λ a. refl, (λ a. refl, (λ a. refl, (λ a. refl, (refl, (λ o. long o (tab 0 (o .bytes)) (tab 242 (o .bytes)), (λ o. long o (tab 0 (o .bytes)) (tab 243 (o .bytes)), (λ o. long o (tab 15 (o .bytes)) (tab 227 (o .bytes)), (λ o. long o (tab 15 (o .bytes)) (tab 228 (o .bytes)), (λ a. refl, tt))))))))))))),
+                  (λ a. refl, (λ a. refl, (λ a. refl, (λ a. refl, (λ a. refl, (λ a. refl, (λ a. refl, (refl, (λ o. long o (tab 0 o.bytes) (tab 242 o.bytes), (λ o. long o (tab 0 o.bytes) (tab 243 o.bytes), (λ o. long o (tab 15 o.bytes) (tab 227 o.bytes), (λ o. long o (tab 15 o.bytes) (tab 228 o.bytes), (λ a. refl, tt))))))))))))),
                 ),
               ),
             ),

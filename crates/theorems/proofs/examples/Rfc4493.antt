@@ -1,20 +1,20 @@
 -- RFC 4493, section 4: the subkeys and two of the tags, computed from the definitions alone. The key of every example is
 -- that of FIPS 197, A.1.
 -- Assumes nothing.
-use mathlib.Core.Path.{_≡_, refl, ap, _∙_}
+use mathlib.Core.Path.{◌≡◌, refl, ap, ◌∙◌}
 use mathlib.Core.List.{List, []}
 use Prim.Native.Nat.{ℕ}
 use native.Mathlib.Omega.{arith}
-use Rattle·base.specs.Bytes.{xorL}
-use Rattle·aes.specs.Field.{xtime, mulBits, mul, fromBits, affine}
-use Rattle·aes.specs.KeyExpansion.{keyExpansion}
-use Rattle·aes.specs.Fips197.{row, shiftRows, mixColumns, addRoundKey, cipher}
-use Rattle·cmac.specs.Doubling.{constZero, shifted, doubled}
-use Rattle·cmac.specs.Rfc4493.{subkey1, subkey2, chain, ahead, padded, mLast, closed, tag, mac}
-use Rattle·theorems·specs.specs.PrintedFips197.{key-B, schedule-A1}
-use Rattle·theorems·specs.specs.PrintedRfc4493.{l, k1, k2, tag-1, message-2, tag-2}
-use Rattle·theorems·proofs.proofs.examples.ByList.{subListed, roundsListed, cipherListed, by-list}
-use Rattle·theorems·proofs.proofs.examples.Fips197.{expansion-A1, bytes-A1}
+use Rattle.base.specs.Bytes.{xorL}
+use Rattle.aes.specs.Field.{xtime, mulBits, mul, fromBits, affine}
+use Rattle.aes.specs.KeyExpansion.{keyExpansion}
+use Rattle.aes.specs.Fips197.{row, shiftRows, mixColumns, addRoundKey, cipher}
+use Rattle.cmac.specs.Doubling.{constZero, shifted, doubled}
+use Rattle.cmac.specs.Rfc4493.{subkey1, subkey2, chain, ahead, padded, mLast, closed, tag, mac}
+use Rattle.theorems.specs.PrintedFips197.{key-B, schedule-A1}
+use Rattle.theorems.specs.PrintedRfc4493.{l, k1, k2, tag-1, message-2, tag-2}
+use Rattle.theorems.proofs.examples.ByList.{subListed, roundsListed, cipherListed, by-list}
+use Rattle.theorems.proofs.examples.Fips197.{expansion-A1, bytes-A1}
 
 -- ---- subkey generation
 

@@ -1,12 +1,12 @@
 -- The examples of docs/RULES.md, Text, computed from the definition: the text of its frame is its eight lines to the byte, and
 -- that of a refusal one line, which has the number and the whole place.
 -- Assumes nothing.
-use mathlib.Core.Path.{_≡_, refl}
-use mathlib.Core.List.{List, [], _∷_, _++_}
+use mathlib.Core.Path.{◌≡◌, refl}
+use mathlib.Core.List.{List, [], ◌∷◌, ◌++◌}
 use Prim.Native.Nat.{ℕ}
-use Rattle·base.specs.Bytes.{zeros}
-use Rattle·frame.specs.Reading.{portOf, payloadOf, dataOf, readJoinRequest, readData, readType, readOf}
-use Rattle·show_text.specs.Text.{digitOf, hexOf, decimalIn, decimalOf, hexLine, numberLine, pairLine, portLine, placeLine, payloadLine, headerText, restText, dataText, refusalText, textOfReading, textOf, textOfInput}
+use Rattle.base.specs.Bytes.{zeros}
+use Rattle.frame.specs.Reading.{portOf, payloadOf, data_of, readJoinRequest, readData, readType, read_of}
+use Rattle.show_text.specs.Text.{digitOf, hexOf, decimalIn, decimalOf, hexLine, numberLine, pairLine, portLine, placeLine, payloadLine, headerText, restText, dataText, refusalText, textOfReading, text_of, textOfInput}
 
 -- 40 04030201 00 0500, what follows, 11223344
 abbrev frameWith : List ℕ → List ℕ
@@ -36,13 +36,13 @@ portLines port count =
     112 ∷ 111 ∷ 114 ∷ 116 ∷ 32 ∷ port ∷ 10 ∷ 112 ∷ 97 ∷ 121 ∷ 108 ∷ 111 ∷ 97 ∷ 100 ∷ 32 ∷ 57 ∷ 32 ∷ count ∷ 10 ∷ []
 
 -- port 0 with the byte AA: port 0, payload 9 1
-pub example : textOf (frameWith (0 ∷ 170 ∷ [])) ≡ textWith (portLines 48 49)
-unfolding textOf textOfReading dataText headerText restText payloadLine placeLine pairLine portLine numberLine hexLine decimalOf decimalIn hexOf digitOf readOf readType readData dataOf payloadOf portOf
+pub example : text_of (frameWith (0 ∷ 170 ∷ [])) ≡ textWith (portLines 48 49)
+unfolding text_of textOfReading dataText headerText restText payloadLine placeLine pairLine portLine numberLine hexLine decimalOf decimalIn hexOf digitOf read_of readType readData data_of payloadOf portOf
 example = refl
 
 -- port 5 with nothing behind it: port 5, payload 9 0
-pub heartbeat : textOf (frameWith (5 ∷ [])) ≡ textWith (portLines 53 48)
-unfolding textOf textOfReading dataText headerText restText payloadLine placeLine pairLine portLine numberLine hexLine decimalOf decimalIn hexOf digitOf readOf readType readData dataOf payloadOf portOf
+pub heartbeat : text_of (frameWith (5 ∷ [])) ≡ textWith (portLines 53 48)
+unfolding text_of textOfReading dataText headerText restText payloadLine placeLine pairLine portLine numberLine hexLine decimalOf decimalIn hexOf digitOf read_of readType readData data_of payloadOf portOf
 heartbeat = refl
 
 -- ---- refusals, each with its place
@@ -53,13 +53,13 @@ refusalLine number place =
     114 ∷ 101 ∷ 102 ∷ 117 ∷ 115 ∷ 101 ∷ 100 ∷ 32 ∷ [] ++ number ++ 32 ∷ 97 ∷ 116 ∷ 32 ∷ [] ++ place ++ 10 ∷ []
 
 -- nothing at all: refused 1 at 0
-pub of-nothing : textOf [] ≡ refusalLine (49 ∷ []) (48 ∷ [])
-unfolding textOf textOfReading refusalText pairLine numberLine decimalOf decimalIn digitOf readOf
+pub of-nothing : text_of [] ≡ refusalLine (49 ∷ []) (48 ∷ [])
+unfolding text_of textOfReading refusalText pairLine numberLine decimalOf decimalIn digitOf read_of
 of-nothing = refl
 
 -- 22 zeros, a byte less than a join-request has: refused 4 at 22
-pub of-short-request : textOf (zeros 22) ≡ refusalLine (52 ∷ []) (50 ∷ 50 ∷ [])
-unfolding textOf textOfReading refusalText pairLine numberLine decimalOf decimalIn digitOf readOf readType readJoinRequest
+pub of-short-request : text_of (zeros 22) ≡ refusalLine (52 ∷ []) (50 ∷ 50 ∷ [])
+unfolding text_of textOfReading refusalText pairLine numberLine decimalOf decimalIn digitOf read_of readType readJoinRequest
 of-short-request = refl
 
 -- 70,000 bytes, whatever they are: refused 12 at 70000

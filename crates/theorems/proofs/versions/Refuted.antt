@@ -1,38 +1,38 @@
 -- No version that docs/RULES.md names meets what its call is held to: a reader is held to both sides of each limit, a
 -- builder to the length of its frame, and an amendment to every list, of which the two frames of `TwoFrames` tell.
 -- Assumes nothing.
-use mathlib.Core.Path.{_≡_, refl, sym, ap, ap₂, _∙_}
+use mathlib.Core.Path.{◌≡◌, refl, sym, ap, ap₂, ◌∙◌}
 use mathlib.Core.Bool.{true, false}
-use mathlib.Core.List.{List, [], _∷_}
-use Prim.Native.Nat.{ℕ, _+_}
+use mathlib.Core.List.{List, [], ◌∷◌}
+use Prim.Native.Nat.{ℕ, ◌+◌}
 use native.Mathlib.Omega.{arith}
 use lib.ListN.{take, drop}
-use Rattle·base.specs.Bytes.{tab, at}
-use Rattle·frame.specs.Conditions.{IsData}
-use Rattle·frame.specs.Layout.{header, micOf}
-use Rattle·frame.specs.ReadingNumbers.{numberOf, dataValues, valuesOf}
-use Rattle·frame.specs.Reading.{portOf, payloadOf, dataOf, readData, readType, readOf}
-use Rattle·frame.specs.declared.parser.FPort.the-variants.{Absent}
-use Rattle·frame.specs.declared.parser.Reading.{Reading}
-use Rattle·frame.specs.declared.numbers.Values.{Values}
-use Rattle·frame_security.specs.Sealing.{sealed}
-use Rattle·frame_build.specs.DataBuilding.{dataRefusal, dataHeader, fixedHeader}
-use Rattle·frame_security.specs.declared.sealing.Built.{Built}
-use Rattle·frame_security.specs.declared.sealing.Built.the-variants.{Frame, Refused}
-use Rattle·frame_build.specs.declared.creator.data_frame.DataParts.{DataParts}
-use Rattle·frame_build.proofs.DataBuiltLaws.{frame-long}
-use Rattle·amend.specs.Amending.{amendOf}
-use Rattle·amend.specs.AmendmentLists.{Amendment, amendedBy, payloadBy, Stands}
-use Rattle·amend.specs.OpenFrame.{held, openedOf, openOf}
-use Rattle·amend.specs.declared.amending.Open.{Open}
-use Rattle·amend.specs.declared.opening.Opened.{Opened}
-use Rattle·amend.proofs.Accepted.{accepted-opens}
-use Rattle·amend.proofs.Demand3.{state-after}
-use Rattle·frame_security.proofs.SealedFrames.{sealed-header, sealed-clear}
-use Rattle·amend.proofs.Sealed.{sealed-accepted}
-use Rattle·theorems·specs.specs.PrintedFips197.{key-B}
-use Rattle·theorems·specs.specs.WrongVersions.{Reads, RefusesEach, SameForAll, Builder, BuildsData, Reports, Amends, untouched, stored, storesOnly, signsFirst, ConstantMic}
-use Rattle·theorems·proofs.proofs.versions.TwoFrames.{template, frameOf, frame-of-1, frame-of-2}
+use Rattle.base.specs.Bytes.{tab, at}
+use Rattle.frame.specs.Conditions.{IsData}
+use Rattle.frame.specs.Layout.{header, micOf}
+use Rattle.frame.specs.ReadingNumbers.{number_of, dataValues, valuesOf}
+use Rattle.frame.specs.Reading.{portOf, payloadOf, data_of, readData, readType, read_of}
+use Rattle.frame.specs.declared.parser.FPort.TheVariants.{Absent}
+use Rattle.frame.specs.declared.parser.Reading.{Reading}
+use Rattle.frame.specs.declared.numbers.Values.{Values}
+use Rattle.frame_security.specs.Sealing.{sealed}
+use Rattle.frame_build.specs.DataBuilding.{dataRefusal, dataHeader, fixedHeader}
+use Rattle.frame_security.specs.declared.sealing.Built.{Built}
+use Rattle.frame_security.specs.declared.sealing.Built.TheVariants.{Frame, Refused}
+use Rattle.frame_build.specs.declared.creator.data_frame.DataParts.{DataParts}
+use Rattle.frame_build.proofs.DataBuiltLaws.{frame-long}
+use Rattle.amend.specs.Amending.{amendOf}
+use Rattle.amend.specs.AmendmentLists.{Amendment, amendedBy, payloadBy, Stands}
+use Rattle.amend.specs.OpenFrame.{held, opened_of, openOf}
+use Rattle.amend.specs.declared.amending.Open.{Open}
+use Rattle.amend.specs.declared.opening.Opened.{Opened}
+use Rattle.amend.proofs.Accepted.{accepted-opens}
+use Rattle.amend.proofs.Demand3.{state-after}
+use Rattle.frame_security.proofs.SealedFrames.{sealed-header, sealed-clear}
+use Rattle.amend.proofs.Sealed.{sealed-accepted}
+use Rattle.theorems.specs.PrintedFips197.{key-B}
+use Rattle.theorems.specs.WrongVersions.{Reads, RefusesEach, SameForAll, Builder, BuildsData, Reports, Amends, untouched, stored, storesOnly, signsFirst, ConstantMic}
+use Rattle.theorems.proofs.versions.TwoFrames.{template, frame_of, frame-of-1, frame-of-2}
 
 -- ---- readers
 
@@ -40,42 +40,42 @@ use Rattle·theorems·proofs.proofs.versions.TwoFrames.{template, frameOf, frame
 abbrev counted : ℕ → List ℕ
 counted n = 0x40 ∷ 0 ∷ 0 ∷ 0 ∷ 0 ∷ 0 ∷ n ∷ 0 ∷ 0 ∷ 0 ∷ 0 ∷ 0 ∷ []
 
-accepted : (n : ℕ) → numberOf (readOf (counted n)) ≡ 0
-unfolding readOf readType readData dataOf portOf payloadOf
+accepted : (n : ℕ) → number_of (read_of (counted n)) ≡ 0
+unfolding read_of readType readData data_of portOf payloadOf
 accepted n = refl
 
-shows : (n : ℕ) → valuesOf (readOf (counted n)) .fcnt ≡ n + 0
-unfolding readOf readType readData dataOf portOf payloadOf dataValues
+shows : (n : ℕ) → (valuesOf (read_of (counted n))).fcnt ≡ n + 0
+unfolding read_of readType readData data_of portOf payloadOf dataValues
 shows n = refl
 
 pub refuses-each : (read : List ℕ → Reading) → Reads read → RefusesEach read → ⊥
-refuses-each read meets refuses = refuses (counted 0) (ap numberOf (meets (counted 0)) ∙ accepted 0)
+refuses-each read meets refuses = refuses (counted 0) (ap number_of (meets (counted 0)) ∙ accepted 0)
 
 pub same-for-all : (read : List ℕ → Reading) → Reads read → SameForAll read → ⊥
 same-for-all read meets same =
-    let shown : (n : ℕ) → valuesOf (read (counted n)) .fcnt ≡ n + 0 = λ n. ap (λ (r : Reading). valuesOf r .fcnt) (meets (counted n)) ∙ shows n in
-    let one : _≡_ {A = ℕ} 0 1 = sym (shown 0) ∙ ap (λ (v : Values). v .fcnt) (same (counted 0) (counted 1) (accepted 0) (accepted 1)) ∙ shown 1 in
+    let shown : (n : ℕ) → (valuesOf (read (counted n))).fcnt ≡ n + 0 = λ n. ap (λ (r : Reading). (valuesOf r).fcnt) (meets (counted n)) ∙ shows n in
+    let one : ◌≡◌ {A = ℕ} 0 1 = sym (shown 0) ∙ ap (λ (v : Values). v.fcnt) (same (counted 0) (counted 1) (accepted 0) (accepted 1)) ∙ shown 1 in
     omega (arith, one)
 
 -- ---- builders
 
 -- an unconfirmed uplink without a port
 abbrev fields : DataParts
-fields = record { confirmed = false; uplink = true; «dev_addr» = tab 4 (λ i. 0); fctrl = 0; fcnt = 0; port = Absent }
+fields = record { confirmed = false; uplink = true; dev_addr = tab 4 (λ i. 0); fctrl = 0; fcnt = 0; port = Absent }
 
-abbrev lengthOf : Built → ℕ
-lengthOf (Frame n) = n
-lengthOf (Refused r) = 0
+abbrev length_of : Built → ℕ
+length_of (Frame n) = n
+length_of (Refused r) = 0
 
 -- without commands a frame has 12 bytes, with one of one byte 13
 pub made-up-length : (n : ℕ) (build : Builder) → BuildsData build → Reports n build → ⊥
 unfolding dataRefusal dataHeader fixedHeader
 made-up-length n build meets reports =
     let twelve : n ≡ 12 =
-    ap lengthOf (sym (reports key-B key-B fields [] [] 255 refl) ∙ meets key-B key-B fields [] [] 255)
+    ap length_of (sym (reports key-B key-B fields [] [] 255 refl) ∙ meets key-B key-B fields [] [] 255)
     ∙ frame-long key-B key-B fields [] [] in
     let thirteen : n ≡ 13 =
-    ap lengthOf (sym (reports key-B key-B fields (2 ∷ []) [] 255 refl) ∙ meets key-B key-B fields (2 ∷ []) [] 255)
+    ap length_of (sym (reports key-B key-B fields (2 ∷ []) [] 255 refl) ∙ meets key-B key-B fields (2 ∷ []) [] 255)
     ∙ frame-long key-B key-B fields (2 ∷ []) [] in
     omega (arith, twelve, thirteen)
 
@@ -86,22 +86,22 @@ is-data = record { least = omega arith; most = omega arith; version = refl; from
 
 -- the frame that is opened, with a clear byte 0
 abbrev opened : Opened
-opened = openOf (frameOf 0) key-B key-B 0
+opened = openOf (frame_of 0) key-B key-B 0
 
-opens : opened .refusal .number ≡ 0
+opens : opened.refusal.number ≡ 0
 opens =
-    ap (λ (o : Opened). o .refusal .number)
-    (accepted-opens (frameOf 0) key-B key-B 0 (sealed-accepted template key-B key-B 0 is-data (0 ∷ []) refl refl))
+    ap (λ (o : Opened). o.refusal.number)
+    (accepted-opens (frame_of 0) key-B key-B 0 (sealed-accepted template key-B key-B 0 is-data (0 ∷ []) refl refl))
 
 -- that byte set to v
-abbrev setTo : ℕ → Amendment
-setTo v = record { offset = 0; value = v }
+abbrev set_to : ℕ → Amendment
+set_to v = record { offset = 0; value = v }
 
 -- what demand 3 says of the frame after a list
-stands : (list : List Amendment) (s : Open) → Stands (frameOf 0) key-B key-B 0 list s
-    → take (s .length) (s .frame) ≡ sealed key-B key-B 0 (header template) (payloadBy (0 ∷ []) list)
+stands : (list : List Amendment) (s : Open) → Stands (frame_of 0) key-B key-B 0 list s
+    → take s.length s.frame ≡ sealed key-B key-B 0 (header template) (payloadBy (0 ∷ []) list)
 stands list s h =
-    h .frame
+    h.frame
     ∙ ap₂ (λ (hdr p : List ℕ). sealed key-B key-B 0 hdr (payloadBy p list))
     (sealed-header template key-B key-B 0 is-data (0 ∷ []) refl)
     (sealed-clear template key-B key-B 0 is-data (0 ∷ []) refl)
@@ -113,49 +113,49 @@ micByte f = at (drop 10 f) 0
 pub untouched-refuted : Amends untouched → ⊥
 unfolding payloadBy
 untouched-refuted meets =
-    let one = stands (setTo 1 ∷ []) (opened .state) (meets (frameOf 0) key-B key-B 0 opens (setTo 1 ∷ [])) in
-    let two = stands (setTo 2 ∷ []) (opened .state) (meets (frameOf 0) key-B key-B 0 opens (setTo 2 ∷ [])) in
-    let same : _≡_ {A = ℕ} 0xaa 0x6c = ap micByte (sym (one ∙ frame-of-1) ∙ two ∙ frame-of-2) in
+    let one = stands (set_to 1 ∷ []) opened.state (meets (frame_of 0) key-B key-B 0 opens (set_to 1 ∷ [])) in
+    let two = stands (set_to 2 ∷ []) opened.state (meets (frame_of 0) key-B key-B 0 opens (set_to 2 ∷ [])) in
+    let same : ◌≡◌ {A = ℕ} 0xaa 0x6c = ap micByte (sym (one ∙ frame-of-1) ∙ two ∙ frame-of-2) in
     omega (arith, same)
 
 -- the right state after the first amendment
-first : amendOf (opened .state) 0 1 .state ≡ openedOf (frameOf 1) key-B key-B 0
+first : (amendOf opened.state 0 1).state ≡ opened_of (frame_of 1) key-B key-B 0
 unfolding amendedBy payloadBy
 first =
-    state-after (frameOf 0) key-B key-B 0 opens (setTo 1 ∷ [])
-    ∙ ap₂ (λ (hdr p : List ℕ). openedOf (sealed key-B key-B 0 hdr (payloadBy p (setTo 1 ∷ []))) key-B key-B 0)
+    state-after (frame_of 0) key-B key-B 0 opens (set_to 1 ∷ [])
+    ∙ ap₂ (λ (hdr p : List ℕ). opened_of (sealed key-B key-B 0 hdr (payloadBy p (set_to 1 ∷ []))) key-B key-B 0)
     (sealed-header template key-B key-B 0 is-data (0 ∷ []) refl)
     (sealed-clear template key-B key-B 0 is-data (0 ∷ []) refl)
 
 -- then the second byte stored, and the MIC left as it was
 abbrev both : List Amendment
-both = setTo 1 ∷ setTo 2 ∷ []
+both = set_to 1 ∷ set_to 2 ∷ []
 
 abbrev standing : Open → List ℕ
-standing s = take (s .length) (s .frame)
+standing s = take s.length s.frame
 
-left-over : micByte (standing (signsFirst (opened .state) both)) ≡ 0xaa
-unfolding signsFirst storesOnly openedOf held
-left-over =
+left_over : micByte (standing (signsFirst opened.state both)) ≡ 0xaa
+unfolding signsFirst storesOnly opened_of held
+left_over =
     ap (λ (s : Open). micByte (standing (stored s 0 2)))
-    (first ∙ ap (λ (f : List ℕ). openedOf f key-B key-B 0) frame-of-1)
+    (first ∙ ap (λ (f : List ℕ). opened_of f key-B key-B 0) frame-of-1)
 
 pub signs-first-refuted : Amends signsFirst → ⊥
 unfolding payloadBy
 signs-first-refuted meets =
-    let s = signsFirst (opened .state) both in
-    let same : _≡_ {A = ℕ} 0xaa 0x6c = sym left-over ∙ ap micByte (stands both s (meets (frameOf 0) key-B key-B 0 opens both) ∙ frame-of-2) in
+    let s = signsFirst opened.state both in
+    let same : ◌≡◌ {A = ℕ} 0xaa 0x6c = sym left_over ∙ ap micByte (stands both s (meets (frame_of 0) key-B key-B 0 opens both) ∙ frame-of-2) in
     omega (arith, same)
 
 -- two lists after which the MICs differ
 pub constant-mic-refuted : (amend : Open → List Amendment → Open) → Amends amend → ConstantMic amend → ⊥
 unfolding payloadBy
 constant-mic-refuted amend meets constant =
-    let s = opened .state in
-    let one = stands (setTo 1 ∷ []) (amend s (setTo 1 ∷ [])) (meets (frameOf 0) key-B key-B 0 opens (setTo 1 ∷ [])) in
-    let two = stands (setTo 2 ∷ []) (amend s (setTo 2 ∷ [])) (meets (frameOf 0) key-B key-B 0 opens (setTo 2 ∷ [])) in
-    let same : _≡_ {A = ℕ} 0xaa 0x6c =
+    let s = opened.state in
+    let one = stands (set_to 1 ∷ []) (amend s (set_to 1 ∷ [])) (meets (frame_of 0) key-B key-B 0 opens (set_to 1 ∷ [])) in
+    let two = stands (set_to 2 ∷ []) (amend s (set_to 2 ∷ [])) (meets (frame_of 0) key-B key-B 0 opens (set_to 2 ∷ [])) in
+    let same : ◌≡◌ {A = ℕ} 0xaa 0x6c =
     sym (ap (λ (f : List ℕ). at (micOf f) 0) (one ∙ frame-of-1))
-    ∙ ap (λ (m : List ℕ). at m 0) (constant s s (setTo 1 ∷ []) (setTo 2 ∷ []))
+    ∙ ap (λ (m : List ℕ). at m 0) (constant s s (set_to 1 ∷ []) (set_to 2 ∷ []))
     ∙ ap (λ (f : List ℕ). at (micOf f) 0) (two ∙ frame-of-2) in
     omega (arith, same)

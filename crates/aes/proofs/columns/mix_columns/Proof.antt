@@ -1,41 +1,41 @@
 -- `aes::columns::mix_columns` meets its contract: the loop fills the state a column a turn.
 -- Assumes nothing.
 use mathlib.Core.Path.{refl}
-use Prim.Native.Nat.{_-_, _*_}
+use Prim.Native.Nat.{◌-◌, ◌*◌}
 use native.Mathlib.Omega.{arith}
-use Rattle·base.proofs.Filling.{Filling, start, done}
-use Rattle·aes·specs.specs.Fips197.{mixedAt, mixRow, mixColumns}
-use Rattle·aes·proofs.proofs.Column.{column}
-use Rattle·aes·proofs.proofs.columns.mix_columns.Statement.{statement}
-use Rattle·aes·proofs.proofs.columns.mix_columns.Tie as tie
+use Rattle.base.proofs.Filling.{Filling, start, done}
+use Rattle.aes.specs.Fips197.{mixedAt, mixRow, mixColumns}
+use Rattle.aes.proofs.Column.{column}
+use Rattle.aes.proofs.columns.mix_columns.Statement.{statement}
+use Rattle.aes.proofs.columns.mix_columns.Tie as tie
 
-abbrev Inv-loop : tie.InvT-loop
-Inv-loop s r₀ column₀ r q = Filling 16 (mixedAt mixRow s) r (4 * q)
+abbrev invariant-loop : tie.invariant-loop
+invariant-loop s r₀ column₀ r q = Filling 16 (mixedAt mixRow s) r (4 * q)
 
-abbrev μ-loop : tie.MeasureT-loop
-μ-loop s r₀ column₀ r q = 4 - q
+abbrev decreases-loop : tie.decreases-loop
+decreases-loop s r₀ column₀ r q = 4 - q
 
-loop-holds : tie.Need-loop-holds Inv-loop μ-loop
+loop-holds : tie.Need-loop-init invariant-loop decreases-loop
 loop-holds c = start 16 _ _ refl
 
-loop-again : tie.Need-loop-again Inv-loop μ-loop
+loop-again : tie.Need-loop-preserved invariant-loop decreases-loop
 loop-again c =
-    column mixRow (c .before .before .before .before .before .before .args .t1) _ (c .before .before .before .before .before .loop .column) _ _ _ _ (c .before .before .before .before .before .loop .inv) (c .before .before .before .before .loop-test .taken)
-    (c .before .before .before .mixed .ensures)
-    (c .before .before .mixed2 .ensures)
-    (c .before .mixed3 .ensures)
-    (c .mixed4 .ensures)
+    column mixRow c.before.before.before.before.before.before.args.t1 _ c.before.before.before.before.before.loop.column _ _ _ _ c.before.before.before.before.before.loop.invariant c.before.before.before.before.loop-test.true
+    c.before.before.before.mixed.ensures
+    c.before.before.mixed2.ensures
+    c.before.mixed3.ensures
+    c.mixed4.ensures
 
-returns : tie.Need-returns Inv-loop μ-loop
+returns : tie.Need-returns invariant-loop decreases-loop
 unfolding mixColumns
-returns c = done (c .before .loop .inv) (omega arith)
+returns c = done c.before.loop.invariant (omega arith)
 
 pub mix-columns-spec : {M : Type 1} → statement M
 mix-columns-spec =
     tie.close
     (tie.spec
-    Inv-loop
-    μ-loop
+    invariant-loop
+    decreases-loop
     loop-holds
     -- the places of the four bytes of a column
     (λ c. omega arith) (λ c. omega arith) (λ c. omega arith) (λ c. omega arith) (λ c. omega arith) (λ c. omega arith)

@@ -1,25 +1,25 @@
 -- `aes::steps::inv_sub_bytes` meets its contract: the table holds what the rule gives at each byte.
 -- Assumes nothing.
-use mathlib.Core.Path.{ap, _∙_}
+use mathlib.Core.Path.{ap, ◌∙◌}
 use mathlib.Core.List.{List}
 use Prim.Native.Nat.{ℕ}
-use borrow.Author.Needs.{needs}
+use borrow.Author.Rules.{rules}
 use mir.Syntax.{w8}
 use mir.Val.{Fits}
-use Rattle·base.specs.Bytes.{at}
-use Rattle·aes·specs.specs.Fips197.{looked}
-use Rattle·aes·proofs.proofs.Lookup.{looked-invSBox}
-use Rattle·aes·proofs.proofs.steps.inv_sub_bytes.Statement.{statement}
-use Rattle·aes·proofs.proofs.steps.inv_sub_bytes.Tie as tie
+use Rattle.base.specs.Bytes.{at}
+use Rattle.aes.specs.Fips197.{looked}
+use Rattle.aes.proofs.Lookup.{looked-invSBox}
+use Rattle.aes.proofs.steps.inv_sub_bytes.Statement.{statement}
+use Rattle.aes.proofs.steps.inv_sub_bytes.Tie as tie
 
 looked-up-requires : tie.Need-looked-up-requires
-looked-up-requires c κs = search needs
+looked-up-requires c κs = search rules
 
 returns : tie.Need-returns
 returns c =
-    c .looked-up .ensures
-    ∙ ap (λ (t : List ℕ). looked t (c .before .args .s)) (c .before .pre)
-    ∙ looked-invSBox (c .before .args .s) (λ i. let fits : Fits w8 (at (c .before .args .s) i) = search needs in fits .fits)
+    c.looked-up.ensures
+    ∙ ap (λ (t : List ℕ). looked t c.before.args.s) c.before.requires
+    ∙ looked-invSBox c.before.args.s (λ i. let fits : Fits w8 (at c.before.args.s i) = search rules in fits.fits)
 
 pub inv-sub-bytes-spec : {M : Type 1} → statement M
 inv-sub-bytes-spec = tie.close (tie.spec looked-up-requires returns)

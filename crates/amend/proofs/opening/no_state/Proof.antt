@@ -1,8 +1,8 @@
 -- `no_state` gives the state that is all zeros. Assumes nothing.
 use mathlib.Core.Path.{refl}
-use Rattle·amend·specs.specs.OpenFrame.{nothing}
-use Rattle·amend·proofs.proofs.opening.no_state.Statement.{statement}
-use Rattle·amend·proofs.proofs.opening.no_state.Tie as tie
+use Rattle.amend.specs.OpenFrame.{nothing}
+use Rattle.amend.proofs.opening.no_state.Statement.{statement}
+use Rattle.amend.proofs.opening.no_state.Tie as tie
 
 returns : tie.Need-returns
 unfolding nothing

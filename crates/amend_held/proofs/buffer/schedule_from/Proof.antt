@@ -1,18 +1,18 @@
 -- `schedule_from` copies the bytes of a key schedule from a place on. Assumes nothing.
 use mathlib.Core.Path.{refl}
-use borrow.Author.Needs.{needs}
-use Rattle·amend_held·proofs.proofs.HeldLaws.{copied}
-use Rattle·amend_held·proofs.proofs.buffer.schedule_from.Statement.{statement}
-use Rattle·amend_held·proofs.proofs.buffer.schedule_from.Tie as tie
+use borrow.Author.Rules.{rules}
+use Rattle.amend_held.proofs.HeldLaws.{copied}
+use Rattle.amend_held.proofs.buffer.schedule_from.Statement.{statement}
+use Rattle.amend_held.proofs.buffer.schedule_from.Tie as tie
 
 returns : tie.Need-returns
 returns c =
-    let start = c .before .before .before .before .before in
-    copied _ (start .args .bytes .now) (start .args .from) 176 refl (start .pre) (c .before .put .ensures .list)
+    let start = c.before.before.before.before.before in
+    copied _ start.args.bytes.now start.args.from 176 refl start.requires c.before.put.ensures.list
 
 pub schedule-from-spec : {M : Type 1} → statement M
 schedule-from-spec =
     tie.close
     (tie.spec
-    (λ c. search needs) (λ c. search needs) (λ c. search needs) (λ c. search needs) (λ c. search needs) (λ c κs. search needs)
+    (λ c. search rules) (λ c. search rules) (λ c. search rules) (λ c. search rules) (λ c. search rules) (λ c κs. search rules)
     returns)

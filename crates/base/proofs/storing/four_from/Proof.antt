@@ -1,22 +1,21 @@
 -- `four_from`: a part of a list is the table of its bytes.
 -- Assumes nothing.
-use mathlib.Core.Path.{_≡_, sym}
-use Prim.Native.Nat.{_+_}
+use mathlib.Core.Path.{◌≡◌, sym}
+use Prim.Native.Nat.{◌+◌}
 use native.Mathlib.Omega.{arith}
-use denote.Ref.{now}
-use Rattle·base·proofs.proofs.Parts.{part-tab}
-use borrow.Author.Needs.{needs}
-use Rattle·base·proofs.proofs.storing.four_from.Statement.{statement}
-use Rattle·base·proofs.proofs.storing.four_from.Tie as tie
+use Rattle.base.proofs.Parts.{part-tab}
+use borrow.Author.Rules.{rules}
+use Rattle.base.proofs.storing.four_from.Statement.{statement}
+use Rattle.base.proofs.storing.four_from.Tie as tie
 
 returns : tie.Need-returns
 returns c =
-    let a = c .before .before .before .before .args in
-    let z : a .from + 0 ≡ a .from = omega arith in
-    rw z at (sym (part-tab (a .from) 4 (now (a .bytes)) (omega arith)))
+    let a = c.before.before.before.before.args in
+    let z : a.from + 0 ≡ a.from = omega arith in
+    rw z at (sym (part-tab a.from 4 a.bytes.now (omega arith)))
 
 pub four-from-spec : {M : Type 1} → statement M
 four-from-spec =
     tie.close
-    (tie.spec (λ c. search needs) (λ c. search needs) (λ c. search needs) (λ c. search needs) (λ c. search needs)
-    (λ c. search needs) (λ c. search needs) returns)
+    (tie.spec (λ c. search rules) (λ c. search rules) (λ c. search rules) (λ c. search rules) (λ c. search rules)
+    (λ c. search rules) (λ c. search rules) returns)

@@ -1,12 +1,12 @@
 -- `cmac::Cmac::new` meets its contract, by what `expand` and `with_schedule` ensure. Assumes nothing.
-use mathlib.Core.Path.{ap, _∙_}
-use borrow.Author.Needs.{needs}
-use Rattle·cmac·specs.specs.Running.{started}
-use Rattle·cmac·proofs.proofs.Cmac.new.Statement.{statement}
-use Rattle·cmac·proofs.proofs.Cmac.new.Tie as tie
+use mathlib.Core.Path.{ap, ◌∙◌}
+use borrow.Author.Rules.{rules}
+use Rattle.cmac.specs.Running.{started}
+use Rattle.cmac.proofs.Cmac.new.Statement.{statement}
+use Rattle.cmac.proofs.Cmac.new.Tie as tie
 
 returns : tie.Need-returns
-returns c = c .with-schedule .ensures ∙ ap started (c .before .expand .ensures)
+returns c = c.with-schedule.ensures ∙ ap started c.before.expand.ensures
 
-pub new-spec : {M : Type 1} → statement M
-new-spec = tie.close (tie.spec (λ c κs. search needs) (λ c κs. search needs) returns)
+pub new_spec : {M : Type 1} → statement M
+new_spec = tie.close (tie.spec (λ c κs. search rules) (λ c κs. search rules) returns)

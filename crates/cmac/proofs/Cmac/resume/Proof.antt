@@ -1,8 +1,8 @@
 -- `cmac::Cmac::resume` meets its contract: the fields are as they were given, and no byte is in the open block.
 -- Assumes nothing.
 use mathlib.Core.Path.{refl}
-use Rattle·cmac·proofs.proofs.Cmac.resume.Statement.{statement}
-use Rattle·cmac·proofs.proofs.Cmac.resume.Tie as tie
+use Rattle.cmac.proofs.Cmac.resume.Statement.{statement}
+use Rattle.cmac.proofs.Cmac.resume.Tie as tie
 
 returns : tie.Need-returns
 returns c = refl

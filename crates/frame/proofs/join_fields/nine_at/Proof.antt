@@ -1,33 +1,32 @@
 -- `frame::join_fields::nine_at` meets its contract. After i turns the first i bytes are those of the part.
 -- Assumes nothing.
-use mathlib.Core.Path.{refl, sym, _∙_}
-use Prim.Native.Nat.{_+_, _-_}
+use mathlib.Core.Path.{refl, sym, ◌∙◌}
+use Prim.Native.Nat.{◌+◌, ◌-◌}
 use native.Mathlib.Omega.{arith}
-use Rattle·base.specs.Bytes.{at}
-use Rattle·base.proofs.Filling.{Filling, start, step, done}
-use Rattle·base.proofs.Parts.{part-tab}
-use denote.Ref.{now}
-use borrow.Author.Needs.{needs}
-use Rattle·frame·proofs.proofs.join_fields.nine_at.Statement.{statement}
-use Rattle·frame·proofs.proofs.join_fields.nine_at.Tie as tie
+use Rattle.base.specs.Bytes.{at}
+use Rattle.base.proofs.Filling.{Filling, start, step, done}
+use Rattle.base.proofs.Parts.{part-tab}
+use borrow.Author.Rules.{rules}
+use Rattle.frame.proofs.join_fields.nine_at.Statement.{statement}
+use Rattle.frame.proofs.join_fields.nine_at.Tie as tie
 
-abbrev Inv-loop : tie.InvT-loop
-Inv-loop frame from out₀ i₀ out i = Filling 9 (λ k. at frame (from + k)) out i
+abbrev invariant-loop : tie.invariant-loop
+invariant-loop frame from out₀ i₀ out i = Filling 9 (λ k. at frame (from + k)) out i
 
-abbrev μ-loop : tie.MeasureT-loop
-μ-loop frame from out₀ i₀ out i = 9 - i
+abbrev decreases-loop : tie.decreases-loop
+decreases-loop frame from out₀ i₀ out i = 9 - i
 
-loop-holds : tie.Need-loop-holds Inv-loop μ-loop
-loop-holds c = start 9 _ _ (search needs)
+loop-holds : tie.Need-loop-init invariant-loop decreases-loop
+loop-holds c = start 9 _ _ (search rules)
 
-loop-again : tie.Need-loop-again Inv-loop μ-loop
-loop-again c = step (c .before .before .loop .inv) (omega arith) refl
+loop-again : tie.Need-loop-preserved invariant-loop decreases-loop
+loop-again c = step c.before.before.loop.invariant (omega arith) refl
 
-returns : tie.Need-returns Inv-loop μ-loop
-returns c = done (c .before .loop .inv) (omega arith) ∙ sym (part-tab (c .before .before .args .from) 9 (now (c .before .before .args .frame)) (omega arith))
+returns : tie.Need-returns invariant-loop decreases-loop
+returns c = done c.before.loop.invariant (omega arith) ∙ sym (part-tab c.before.before.args.from 9 c.before.before.args.frame.now (omega arith))
 
 pub nine-at-spec : {M : Type 1} → statement M
 nine-at-spec =
     tie.close
-    (tie.spec Inv-loop μ-loop loop-holds (λ c. omega arith) (λ c. omega arith) (λ c. omega arith) (λ c. omega arith)
+    (tie.spec invariant-loop decreases-loop loop-holds (λ c. omega arith) (λ c. omega arith) (λ c. omega arith) (λ c. omega arith)
     (λ c. omega arith) loop-again returns)

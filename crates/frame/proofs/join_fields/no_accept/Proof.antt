@@ -1,9 +1,9 @@
 -- `frame::join_fields::no_accept` meets its contract. Each field is a literal.
 -- Assumes nothing.
 use mathlib.Core.Path.{refl}
-use Rattle·frame·specs.specs.JoinFields.{noAccept}
-use Rattle·frame·proofs.proofs.join_fields.no_accept.Statement.{statement}
-use Rattle·frame·proofs.proofs.join_fields.no_accept.Tie as tie
+use Rattle.frame.specs.JoinFields.{noAccept}
+use Rattle.frame.proofs.join_fields.no_accept.Statement.{statement}
+use Rattle.frame.proofs.join_fields.no_accept.Tie as tie
 
 returns : tie.Need-returns
 unfolding noAccept

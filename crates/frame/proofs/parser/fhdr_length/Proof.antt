@@ -1,8 +1,8 @@
 -- `fhdr_length` is its definition.
 -- Assumes nothing.
-use borrow.Author.Needs.{needs}
-use Rattle·frame·proofs.proofs.parser.fhdr_length.Statement.{statement}
-use Rattle·frame·proofs.proofs.parser.fhdr_length.Tie as tie
+use borrow.Author.Rules.{rules}
+use Rattle.frame.proofs.parser.fhdr_length.Statement.{statement}
+use Rattle.frame.proofs.parser.fhdr_length.Tie as tie
 
 pub fhdr-length-spec : {M : Type 1} → statement M
-fhdr-length-spec = tie.close (tie.spec (λ c κs. search needs) (λ c. search needs) (λ c. search needs))
+fhdr-length-spec = tie.close (tie.spec (λ c κs. search rules) (λ c. search rules) (λ c. search rules))

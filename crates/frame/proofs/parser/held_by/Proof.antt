@@ -1,14 +1,14 @@
 -- `frame::parser::held_by` meets its contract: its test is the definition's.
 -- Assumes nothing.
-use borrow.Author.Tests.{eq-eqb, ne-eqb}
-use Rattle·frame·proofs.proofs.parser.held_by.Statement.{statement}
-use Rattle·frame·proofs.proofs.parser.held_by.Tie as tie
+use borrow.Author.Tests.{eq-eqb, ne_eqb}
+use Rattle.frame.proofs.parser.held_by.Statement.{statement}
+use Rattle.frame.proofs.parser.held_by.Tie as tie
 
 returns : tie.Need-returns
-returns c = simp (eq-eqb _ _ (c .if1 .taken))
+returns c = simp (eq-eqb _ _ c.if1.true)
 
 returns-2 : tie.Need-returns-2
-returns-2 c = simp (ne-eqb _ _ (c .if1 .left))
+returns-2 c = simp (ne_eqb _ _ c.if1.false)
 
 pub held-by-spec : {M : Type 1} → statement M
 held-by-spec = tie.close (tie.spec returns returns-2)

@@ -1,14 +1,14 @@
 -- `frame_bits::fctrl::is_uplink` meets its contract. Its two tests are the definition's.
 -- Assumes nothing.
-use borrow.Author.Tests.{eq-eqb, ne-eqb}
-use Rattle·frame_bits·proofs.proofs.fctrl.is_uplink.Statement.{statement}
-use Rattle·frame_bits·proofs.proofs.fctrl.is_uplink.Tie as tie
+use borrow.Author.Tests.{eq-eqb, ne_eqb}
+use Rattle.frame_bits.proofs.fctrl.is_uplink.Statement.{statement}
+use Rattle.frame_bits.proofs.fctrl.is_uplink.Tie as tie
 
 returns : tie.Need-returns
-returns c = simp (eq-eqb _ _ (c .if1 .taken))
+returns c = simp (eq-eqb _ _ c.if1.true)
 
 returns-2 : tie.Need-returns-2
-returns-2 c = simp (ne-eqb _ _ (c .if1 .left))
+returns-2 c = simp (ne_eqb _ _ c.if1.false)
 
 pub is-uplink-spec : {M : Type 1} → statement M
 is-uplink-spec = tie.close (tie.spec returns returns-2)

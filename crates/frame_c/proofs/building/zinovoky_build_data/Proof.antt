@@ -1,29 +1,28 @@
 -- `zinovoky_build_data` refuses a kind that is none, and else answers what `build_data` does, of the parts given.
 -- Assumes nothing.
-use borrow.Author.Needs.{needs}
+use borrow.Author.Rules.{rules}
 use mathlib.Core.Path.{refl}
-use denote.Ref.{now}
-use Rattle·frame_build.specs.DataFrames.{dataFrame}
-use Rattle·frame_c·proofs.proofs.Buildings.{refused-kind, below-data, above-data, kind-made}
-use Rattle·frame_c·proofs.proofs.building.zinovoky_build_data.Statement.{statement}
-use Rattle·frame_c·proofs.proofs.building.zinovoky_build_data.Tie as tie
+use Rattle.frame_build.specs.DataFrames.{dataFrame}
+use Rattle.frame_c.proofs.Buildings.{refused-kind, below-data, above-data, kind-made}
+use Rattle.frame_c.proofs.building.zinovoky_build_data.Statement.{statement}
+use Rattle.frame_c.proofs.building.zinovoky_build_data.Tie as tie
 
 returns : tie.Need-returns
-returns c = refused-kind 4 refl (below-data _ _ _ _ _ (c .before .if1 .taken)) (c .numbered-bits .ensures)
+returns c = refused-kind 4 refl (below-data _ _ _ _ _ c.before.if1.true) c.numbered-bits.ensures
 
 returns-2 : tie.Need-returns-2
-returns-2 c = refused-kind 3 refl (above-data _ _ _ _ _ (c .before .before .if1 .left) (c .before .if2 .taken)) (c .numbered-bits2 .ensures)
+returns-2 c = refused-kind 3 refl (above-data _ _ _ _ _ c.before.before.if1.false c.before.if2.true) c.numbered-bits2.ensures
 
 returns-3 : tie.Need-returns-3
 returns-3 c =
-    let at-build-data = c .before .before .before in
-    let at-data-parts = at-build-data .before .before in
-    let tested2 = at-data-parts .before .before .before .before in
-    let tested = tested2 .before in
-    let start = tested .before .before .before .before in
-    let a = start .args in
-    kind-made _ _ _ (λ d. dataFrame (now (a .nwk-skey)) (now (a .app-skey)) d (now (a .commands)) (now (a .payload))) (tested .if1 .left)
-    (tested2 .if2 .left) (at-data-parts .data-parts .ensures) (at-build-data .build-data .ensures .0) (c .built-answer .ensures)
+    let at-build-data = c.before.before.before in
+    let at-data-parts = at-build-data.before.before in
+    let tested2 = at-data-parts.before.before.before.before in
+    let tested = tested2.before in
+    let start = tested.before.before.before.before in
+    let a = start.args in
+    kind-made _ _ _ (λ d. dataFrame a.nwk-skey.now a.app-skey.now d a.commands.now a.payload.now) tested.if1.false
+    tested2.if2.false at-data-parts.data-parts.ensures at-build-data.build-data.ensures.0 c.built-answer.ensures
 
 pub zinovoky-build-data-spec : {M : Type 1} → statement M
-zinovoky-build-data-spec = tie.close (tie.spec (λ c κs. search needs) returns (λ c κs. search needs) returns-2 (λ c κs. search needs) (λ c κs. search needs) (λ c κs. search needs) (λ c. search needs) returns-3)
+zinovoky-build-data-spec = tie.close (tie.spec (λ c κs. search rules) returns (λ c κs. search rules) returns-2 (λ c κs. search rules) (λ c κs. search rules) (λ c κs. search rules) (λ c. search rules) returns-3)

@@ -1,15 +1,15 @@
 -- `zinovoky_held_amend_list` answers what `amend_list_held` does, and leaves the buffer so.
 -- Assumes nothing.
-use borrow.Author.Needs.{needs}
-use mathlib.Core.Path.{ap, _∙_}
-use Rattle·frame_c·specs.specs.CAnswers.{refusalAnswer}
-use Rattle·frame_c·proofs.proofs.holding.zinovoky_held_amend_list.Statement.{statement}
-use Rattle·frame_c·proofs.proofs.holding.zinovoky_held_amend_list.Tie as tie
+use borrow.Author.Rules.{rules}
+use mathlib.Core.Path.{ap, ◌∙◌}
+use Rattle.frame_c.specs.CAnswers.{refusalAnswer}
+use Rattle.frame_c.proofs.holding.zinovoky_held_amend_list.Statement.{statement}
+use Rattle.frame_c.proofs.holding.zinovoky_held_amend_list.Tie as tie
 
 returns : tie.Need-returns
 returns c =
-    let held = c .before .amend-list-held .ensures in
-    (c .refusal-answer .ensures ∙ ap refusalAnswer (held .0), held .1)
+    let held = c.before.amend-list-held.ensures in
+    (c.refusal-answer.ensures ∙ ap refusalAnswer held.0, held.1)
 
 pub zinovoky-held-amend-list-spec : {M : Type 1} → statement M
-zinovoky-held-amend-list-spec = tie.close (tie.spec (λ c κs. search needs) (λ c κs. search needs) returns)
+zinovoky-held-amend-list-spec = tie.close (tie.spec (λ c κs. search rules) (λ c κs. search rules) returns)

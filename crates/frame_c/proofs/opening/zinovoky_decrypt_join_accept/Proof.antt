@@ -1,13 +1,13 @@
 -- `zinovoky_decrypt_join_accept` answers what `decrypt_join_accept` does.
 -- Assumes nothing.
-use borrow.Author.Needs.{needs}
+use borrow.Author.Rules.{rules}
 use mathlib.Core.Path.{refl}
-use Rattle·frame_c·proofs.proofs.Opened.{opened}
-use Rattle·frame_c·proofs.proofs.opening.zinovoky_decrypt_join_accept.Statement.{statement}
-use Rattle·frame_c·proofs.proofs.opening.zinovoky_decrypt_join_accept.Tie as tie
+use Rattle.frame_c.proofs.Opened.{opened}
+use Rattle.frame_c.proofs.opening.zinovoky_decrypt_join_accept.Statement.{statement}
+use Rattle.frame_c.proofs.opening.zinovoky_decrypt_join_accept.Tie as tie
 
 returns : tie.Need-returns
-returns c = opened (c .before .before .before .decrypt-join-accept .ensures) (refl) (c .opening-answer .ensures)
+returns c = opened c.before.before.before.decrypt-join-accept.ensures (refl) c.opening-answer.ensures
 
 pub zinovoky-decrypt-join-accept-spec : {M : Type 1} → statement M
-zinovoky-decrypt-join-accept-spec = tie.close (tie.spec (λ c κs. search needs) (λ c κs. search needs) (λ c. search needs) returns)
+zinovoky-decrypt-join-accept-spec = tie.close (tie.spec (λ c κs. search rules) (λ c κs. search rules) (λ c. search rules) returns)

@@ -1,12 +1,12 @@
 -- `zinovoky_join_request_mic` answers and stores what `join_request_mic` finds.
 -- Assumes nothing.
-use borrow.Author.Needs.{needs}
-use Rattle·frame_c·proofs.proofs.TestedLaws.{tested}
-use Rattle·frame_c·proofs.proofs.opening.zinovoky_join_request_mic.Statement.{statement}
-use Rattle·frame_c·proofs.proofs.opening.zinovoky_join_request_mic.Tie as tie
+use borrow.Author.Rules.{rules}
+use Rattle.frame_c.proofs.TestedLaws.{tested}
+use Rattle.frame_c.proofs.opening.zinovoky_join_request_mic.Statement.{statement}
+use Rattle.frame_c.proofs.opening.zinovoky_join_request_mic.Tie as tie
 
 returns : tie.Need-returns
-returns c = tested _ (c .before .before .join-request-mic .ensures) (c .test-answer .ensures .0) (c .test-answer .ensures .1)
+returns c = tested _ c.before.before.join-request-mic.ensures c.test-answer.ensures.0 c.test-answer.ensures.1
 
 pub zinovoky-join-request-mic-spec : {M : Type 1} → statement M
-zinovoky-join-request-mic-spec = tie.close (tie.spec (λ c κs. search needs) (λ c κs. search needs) returns)
+zinovoky-join-request-mic-spec = tie.close (tie.spec (λ c κs. search rules) (λ c κs. search rules) returns)

@@ -1,20 +1,20 @@
 -- `decrypt_accept` lends the bytes from 1 on to `each_block`.
 -- Assumes nothing.
-use mathlib.Core.Path.{_∙_}
-use Rattle·frame_security.proofs.AcceptBlocks.{enciphers}
-use Rattle·frame_opening·proofs.proofs.AcceptLaws.{lent-from-one}
-use borrow.Author.Needs.{needs}
-use Rattle·frame_opening·proofs.proofs.join_accept.decrypt_accept.Statement.{statement}
-use Rattle·frame_opening·proofs.proofs.join_accept.decrypt_accept.Tie as tie
+use mathlib.Core.Path.{◌∙◌}
+use Rattle.frame_security.proofs.AcceptBlocks.{enciphers}
+use Rattle.frame_opening.proofs.AcceptLaws.{lent-from-one}
+use borrow.Author.Rules.{rules}
+use Rattle.frame_opening.proofs.join_accept.decrypt_accept.Statement.{statement}
+use Rattle.frame_opening.proofs.join_accept.decrypt_accept.Tie as tie
 
 returns : tie.Need-returns
 returns c =
-    let b = c .before .before in
-    let s = b .before .before .before in
-    lent-from-one (s .args .app-key) (s .args .frame .now) (b .each-block .last .1 .1 .0) (s .pre)
-    (b .each-block .ensures ∙ enciphers _ _ _)
+    let b = c.before.before in
+    let s = b.before.before.before in
+    lent-from-one s.args.app-key s.args.frame.now b.each-block.new.1.1.0 s.requires
+    (b.each-block.ensures ∙ enciphers _ _ _)
 
 pub decrypt-accept-spec : {M : Type 1} → statement M
 decrypt-accept-spec =
     tie.close
-    (tie.spec (λ c. search needs) (λ c. search needs) (λ c. search needs) (λ c κs. search needs) (λ c. search needs) returns)
+    (tie.spec (λ c. search rules) (λ c. search rules) (λ c. search rules) (λ c κs. search rules) (λ c. search rules) returns)

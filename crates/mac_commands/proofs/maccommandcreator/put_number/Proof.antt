@@ -1,50 +1,50 @@
-use mathlib.Core.Path.{_≡_, sym, ap, _∙_}
-use Prim.Native.Nat.{ℕ, _+_, _≤_, _<_}
+use mathlib.Core.Path.{◌≡◌, sym, ap, ◌∙◌}
+use Prim.Native.Nat.{ℕ, ◌+◌, ◌≤◌, ◌<◌}
 use native.Mathlib.Omega.{arith}
-use Rattle·mac_commands·proofs.proofs.WriteLaws.{Storing, start, step, done}
-use borrow.Author.Needs.{needs}
-use Rattle·mac_commands·proofs.proofs.maccommandcreator.put_number.Statement.{statement}
-use Rattle·mac_commands·proofs.proofs.maccommandcreator.put_number.Tie as tie
+use Rattle.mac_commands.proofs.WriteLaws.{Storing, start, step, done}
+use borrow.Author.Rules.{rules}
+use Rattle.mac_commands.proofs.maccommandcreator.put_number.Statement.{statement}
+use Rattle.mac_commands.proofs.maccommandcreator.put_number.Tie as tie
 
-abbrev Inv-loop : tie.InvT-loop
-Inv-loop out₀ from n v rest₀ place₀ left₀ out rest place left = Storing out₀ from n v out rest place left
+abbrev invariant-loop : tie.invariant-loop
+invariant-loop out₀ from n v rest₀ place₀ left₀ out rest place left = Storing out₀ from n v out rest place left
 
-abbrev μ-loop : tie.MeasureT-loop
-μ-loop out₀ from n v rest₀ place₀ left₀ out rest place left = left
+abbrev decreases-loop : tie.decreases-loop
+decreases-loop out₀ from n v rest₀ place₀ left₀ out rest place left = left
 
-loop-holds : tie.Need-loop-holds Inv-loop μ-loop
+loop-holds : tie.Need-loop-init invariant-loop decreases-loop
 loop-holds c = start _ _ _ _
 
-cast-out : tie.Need-cast-out Inv-loop μ-loop
-cast-out c = search needs
+cast-out : tie.Need-overflow-cast-out invariant-loop decreases-loop
+cast-out c = search rules
 
-slice-write-out : tie.Need-slice-write-out Inv-loop μ-loop
-slice-write-out c = omega (arith, c .before .loop .inv .long, c .before .loop .inv .places)
+slice-write-out : tie.Need-slice-write-out invariant-loop decreases-loop
+slice-write-out c = omega (arith, c.before.loop.invariant.long, c.before.loop.invariant.places)
 
-add-place : tie.Need-add-place Inv-loop μ-loop
-add-place c = omega (arith, c .before .loop .inv .places)
+add-place : tie.Need-overflow-add-place invariant-loop decreases-loop
+add-place c = omega (arith, c.before.loop.invariant.places)
 
-sub-left : tie.Need-sub-left Inv-loop μ-loop
-sub-left c = search needs
+sub-left : tie.Need-overflow-sub-left invariant-loop decreases-loop
+sub-left c = search rules
 
-loop-less : tie.Need-loop-less Inv-loop μ-loop
-loop-less c = search needs
+loop-less : tie.Need-loop-smaller invariant-loop decreases-loop
+loop-less c = search rules
 
-loop-again : tie.Need-loop-again Inv-loop μ-loop
-loop-again c = step (c .before .loop .inv) (c .loop-test .taken)
+loop-again : tie.Need-loop-preserved invariant-loop decreases-loop
+loop-again c = step c.before.loop.invariant c.loop-test.true
 
-same-length : tie.Need-same-length Inv-loop μ-loop
-same-length c = c .before .loop .inv .long
+same_length : tie.Need-same-length invariant-loop decreases-loop
+same_length c = c.before.loop.invariant.long
 
-returns : tie.Need-returns Inv-loop μ-loop
-returns c = done (c .before .loop .inv) (c .loop-test .left)
+returns : tie.Need-returns invariant-loop decreases-loop
+returns c = done c.before.loop.invariant c.loop-test.false
 
 pub put-number-spec : {M : Type 1} → statement M
 put-number-spec =
     tie.close
     (tie.spec
-    Inv-loop
-    μ-loop
+    invariant-loop
+    decreases-loop
     loop-holds
     cast-out
     slice-write-out
@@ -52,5 +52,5 @@ put-number-spec =
     sub-left
     loop-less
     loop-again
-    same-length
+    same_length
     returns)

@@ -1,18 +1,16 @@
 -- `replay::building::data` is safe and ends: the length lies within the room.
 -- Assumes nothing.
-use mathlib.Core.Path.{sym}
-use borrow.Author.Needs.{needs}
-use lib.Seq.{length-take-le}
-use Rattle·replay·proofs.proofs.building.data.Statement.{statement}
-use Rattle·replay·proofs.proofs.building.data.Tie as tie
+use Rattle.std.proofs.Common.{sym, length-take-le, rules}
+use Rattle.replay.proofs.building.data.Statement.{statement}
+use Rattle.replay.proofs.building.data.Tie as tie
 
 slice-aggregate-data-with-commands : tie.Need-slice-aggregate-data-with-commands
-slice-aggregate-data-with-commands c = sym (length-take-le _ _ (c .before .length-at .ensures))
+slice-aggregate-data-with-commands c = sym (length-take-le _ _ c.before.length_at.ensures)
 
 pub data-spec : {M : Type 1} → statement M
 data-spec =
     tie.close
     (tie.spec
-    (λ c κs. search needs) (λ c. search needs)
+    (λ c κs. search rules) (λ c. search rules)
     slice-aggregate-data-with-commands
-    (λ c κs. search needs) (λ c. search needs))
+    (λ c κs. search rules) (λ c. search rules))

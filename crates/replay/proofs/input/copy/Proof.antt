@@ -1,20 +1,17 @@
 -- `replay::input::copy` is safe and ends: it goes through the slice that it fills.
 -- Assumes nothing.
-use mathlib.Core.Path.{_≡_}
-use Prim.Native.Nat.{_-_, _≤_}
-use borrow.Author.Needs.{needs}
-use lib.ListN.{length}
-use Rattle·replay·proofs.proofs.input.copy.Statement.{statement}
-use Rattle·replay·proofs.proofs.input.copy.Tie as tie
+use Rattle.std.proofs.Common.{◌≡◌, ◌-◌, ◌≤◌, length, rules}
+use Rattle.replay.proofs.input.copy.Statement.{statement}
+use Rattle.replay.proofs.input.copy.Tie as tie
 
-abbrev Inv-loop : tie.InvT-loop
-Inv-loop to₀ «record» place i₀ to i = (i ≤ length to₀) × (length to ≡ length to₀)
+abbrev invariant-loop : tie.invariant-loop
+invariant-loop to₀ «record» place i₀ to i = (i ≤ length to₀) × (length to ≡ length to₀)
 
-abbrev μ-loop : tie.MeasureT-loop
-μ-loop to₀ «record» place i₀ to i = length to₀ - i
+abbrev decreases-loop : tie.decreases-loop
+decreases-loop to₀ «record» place i₀ to i = length to₀ - i
 
-pub copy-spec : {M : Type 1} → statement M
-copy-spec =
+pub copy_spec : {M : Type 1} → statement M
+copy_spec =
     tie.close
-    (tie.spec Inv-loop μ-loop (λ c. search needs) (λ c κs. search needs) (λ c κs. search needs) (λ c. search needs)
-    (λ c. search needs) (λ c. search needs) (λ c. search needs) (λ c. search needs) (λ c. search needs))
+    (tie.spec invariant-loop decreases-loop (λ c. search rules) (λ c κs. search rules) (λ c κs. search rules) (λ c. search rules)
+    (λ c. search rules) (λ c. search rules) (λ c. search rules) (λ c. search rules) (λ c. search rules))

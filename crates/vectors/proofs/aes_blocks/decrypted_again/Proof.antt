@@ -1,22 +1,20 @@
 -- `vectors::aes_blocks::decrypted_again` is safe and ends: it counts up to the number of times that is asked.
 -- Assumes nothing.
-use Prim.Native.Nat.{_-_, _≤_}
-use native.Mathlib.Omega.{arith}
-use borrow.Author.Needs.{needs}
-use Rattle·vectors·proofs.proofs.aes_blocks.decrypted_again.Statement.{statement}
-use Rattle·vectors·proofs.proofs.aes_blocks.decrypted_again.Tie as tie
+use Rattle.std.proofs.Common.{◌-◌, ◌≤◌, arith, rules}
+use Rattle.vectors.proofs.aes_blocks.decrypted_again.Statement.{statement}
+use Rattle.vectors.proofs.aes_blocks.decrypted_again.Tie as tie
 
-abbrev Inv-loop : tie.InvT-loop
-Inv-loop times schedule b₀ n₀ b n = n ≤ times
+abbrev invariant-loop : tie.invariant-loop
+invariant-loop times schedule b₀ n₀ b n = n ≤ times
 
-abbrev μ-loop : tie.MeasureT-loop
-μ-loop times schedule b₀ n₀ b n = times - n
+abbrev decreases-loop : tie.decreases-loop
+decreases-loop times schedule b₀ n₀ b n = times - n
 
 pub decrypted-again-spec : {M : Type 1} → statement M
 decrypted-again-spec =
     tie.close
     (tie.spec
-    Inv-loop
-    μ-loop
-    (λ c κs. search needs) (λ c. omega arith) (λ c κs. search needs) (λ c. omega arith) (λ c. omega arith)
-    (λ c. omega arith) (λ c. search needs))
+    invariant-loop
+    decreases-loop
+    (λ c κs. search rules) (λ c. omega arith) (λ c κs. search rules) (λ c. omega arith) (λ c. omega arith)
+    (λ c. omega arith) (λ c. search rules))

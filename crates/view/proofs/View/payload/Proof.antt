@@ -1,26 +1,26 @@
 -- `view::View::payload` meets its contract: it is the method of `Accessor` whose field is Payload.
 -- Assumes nothing.
-use contract.Running.{givenOf, tables, tablesOf}
-use denote.Triple.Spec.{tripleOf}
+use contract.Running.{tables, tables_of}
+use denote.Triple.Spec.{triple_of}
 use denote.Triple.Table.{entered, cited}
 use denote.Enum.Laws as EL
-use Rattle·view·specs.specs.declared.parts.Field.the-variants.{Payload}
-use Rattle·view·proofs.proofs.parts.Field as F
-use Rattle·view·proofs.proofs.parts.Field.Laws as F′
-use Rattle·view·proofs.proofs.View.part.Symbol as part-def
-use Rattle·view·proofs.proofs.View.part.Symbol.{name as #view·part}
-use Rattle·view·proofs.proofs.View.part.Met as part-thm
-use Rattle·view·proofs.proofs.Accessor.{Part, meets}
-use Rattle·view·proofs.proofs.View.payload.Key.{name as #view·payload}
-use Rattle·view·proofs.proofs.View.payload as payload
-use Rattle·view·proofs.proofs.View.payload.Statement as stated
-use Rattle·view·proofs.proofs.View.payload.Code as code
+use Rattle.view.specs.declared.parts.Field.TheVariants.{Payload}
+use Rattle.view.specs.contracts.parts.Field as F
+use Rattle.view.proofs.parts.Field.TheLaws as F'
+use Rattle.view.proofs.View.part.Symbol as part-def
+use Rattle.view.proofs.View.part.Symbol.{name as #view·part}
+use Rattle.view.proofs.View.part.Met as part-thm
+use Rattle.view.proofs.Accessor.{Part, meets}
+use Rattle.view.specs.contracts.View.payload.Key.{name as #view·payload}
+use Rattle.view.specs.contracts.View.payload as payload
+use Rattle.view.proofs.View.payload.Statement as stated
+use Rattle.view.proofs.View.payload.Code as code
 
 pub payload-spec : {M : Type 1} → stated.statement M
-unfolding code.routine tablesOf
-payload-spec 𝓤 H 𝓜 𝓖 𝓡 =
-    entered 𝓤 H (tripleOf 𝓤 H (𝓖 .A) payload.signature (payload.spec 𝓤 H (𝓖 .A) (𝓜 .mem) (𝓡 .run)))
-    (tables 𝓤 H 𝓜 𝓡 code.env .C) (tables 𝓤 H 𝓜 𝓡 code.env .Λ) #view·payload code.function (code.unfolded 𝓤 H 𝓜 𝓡)
-    (meets Payload 2 tt (EL.owes F.the-type F′.the-laws Payload tt) 𝓤 H (𝓖 .A) (givenOf 𝓤 H 𝓜 𝓖) (𝓜 .mem) (𝓡 .run)
-    (tablesOf 𝓤 H 𝓜 (tables 𝓤 H 𝓜 𝓡 code.env))
-    (cited 𝓤 H (Part 𝓤 H (𝓖 .A) (𝓜 .mem) (𝓡 .run)) 𝓜 𝓡 code.env #view·part part-def.routine code.calls-view·View·part (part-thm.met 𝓤 H 𝓜 𝓖 𝓡)))
+unfolding code.routine tables_of
+payload-spec 𝓤 𝓛 𝓜 𝓡 =
+    entered 𝓤 𝓛.H (triple_of 𝓛 payload.signature (payload.spec 𝓛 𝓜.mem 𝓡.run))
+    (tables 𝓤 𝓛.H 𝓜 𝓡 code.env).C (tables 𝓤 𝓛.H 𝓜 𝓡 code.env).Λ #view·payload code.function (code.unfolded 𝓤 𝓛.H 𝓜 𝓡)
+    (meets Payload 2 tt (EL.owes F.the_type F'.the_laws Payload tt) 𝓛 𝓜.mem 𝓡.run
+    (tables_of 𝓤 𝓛.H 𝓜 (tables 𝓤 𝓛.H 𝓜 𝓡 code.env))
+    (cited 𝓤 𝓛.H (Part 𝓛 𝓜.mem 𝓡.run) 𝓜 𝓡 code.env #view·part part-def.routine code.calls-view::View::part (part-thm.met 𝓤 𝓛 𝓜 𝓡)))

@@ -1,10 +1,10 @@
 -- `aes::field::inverse_substitution::table` gives its table: every entry is computed by its rule and compared, the whole table in one
 -- test, in which the inverses are looked up.
 -- Assumes nothing.
-use Rattle·aes·specs.specs.Field.{fromBits, invAffine}
-use Rattle·aes·proofs.proofs.Tables.{invSBox-listed}
-use Rattle·aes·proofs.proofs.field.inverse_substitution.table.Statement.{statement}
-use Rattle·aes·proofs.proofs.field.inverse_substitution.table.Tie as tie
+use Rattle.aes.specs.Field.{fromBits, invAffine}
+use Rattle.aes.proofs.Tables.{invSBox-listed}
+use Rattle.aes.proofs.field.inverse_substitution.table.Statement.{statement}
+use Rattle.aes.proofs.field.inverse_substitution.table.Tie as tie
 
 returns : tie.Need-returns
 unfolding fromBits invAffine

@@ -1,28 +1,28 @@
 -- `cf_list_bytes` meets its contract: after i turns the first i bytes of the list are written.
 -- Assumes nothing.
-use mathlib.Core.Path.{sym, _∙_}
-use Prim.Native.Nat.{_-_}
-use borrow.Author.Needs.{needs}
-use Rattle·base.proofs.Filling.{Filling, start, step, done}
-use Rattle·frame_build·specs.specs.JoinBuilding.{listByte}
-use Rattle·frame_build·proofs.proofs.JoinBodies.{list-written}
-use Rattle·frame_build·proofs.proofs.creator.join.cf_list_bytes.Statement.{statement}
-use Rattle·frame_build·proofs.proofs.creator.join.cf_list_bytes.Tie as tie
+use mathlib.Core.Path.{sym, ◌∙◌}
+use Prim.Native.Nat.{◌-◌}
+use borrow.Author.Rules.{rules}
+use Rattle.base.proofs.Filling.{Filling, start, step, done}
+use Rattle.frame_build.specs.JoinBuilding.{listByte}
+use Rattle.frame_build.proofs.JoinBodies.{list_written}
+use Rattle.frame_build.proofs.creator.join.cf_list_bytes.Statement.{statement}
+use Rattle.frame_build.proofs.creator.join.cf_list_bytes.Tie as tie
 
-abbrev Inv-loop : tie.InvT-loop
-Inv-loop channels r₀ i₀ r i = Filling 16 (listByte channels) r i
+abbrev invariant-loop : tie.invariant-loop
+invariant-loop channels r₀ i₀ r i = Filling 16 (listByte channels) r i
 
-abbrev μ-loop : tie.MeasureT-loop
-μ-loop channels r₀ i₀ r i = 16 - i
+abbrev decreases-loop : tie.decreases-loop
+decreases-loop channels r₀ i₀ r i = 16 - i
 
-loop-again : tie.Need-loop-again Inv-loop μ-loop
-loop-again c = step (c .before .before .loop .inv) (search needs) (c .list-byte .ensures)
+loop-again : tie.Need-loop-preserved invariant-loop decreases-loop
+loop-again c = step c.before.before.loop.invariant (search rules) c.list-byte.ensures
 
-returns : tie.Need-returns Inv-loop μ-loop
-returns c = done (c .before .loop .inv) (search needs) ∙ sym (list-written _)
+returns : tie.Need-returns invariant-loop decreases-loop
+returns c = done c.before.loop.invariant (search rules) ∙ sym (list_written _)
 
 pub cf-list-bytes-spec : {M : Type 1} → statement M
 cf-list-bytes-spec =
     tie.close
-    (tie.spec Inv-loop μ-loop (λ c. start _ _ _ (search needs)) (λ c κs. search needs) (λ c. search needs)
-    (λ c. search needs) (λ c. search needs) loop-again returns)
+    (tie.spec invariant-loop decreases-loop (λ c. start _ _ _ (search rules)) (λ c κs. search rules) (λ c. search rules)
+    (λ c. search rules) (λ c. search rules) loop-again returns)
