@@ -59,7 +59,7 @@ both_fails false = refl
 
 not_known : (id : ℕ) → Unknown id → known id ≡ false
 not_known id (low h) = ap (λ (b : Bool). both b (leb id 10)) (lt-leb 2 id h)
-not_known id (high h) = ap (both (leb 2 id)) (lt-leb id 10 h) ∙ both_fails (leb 2 id)
+not_known id (high h) = ap (both (leb 2 id)) (lt-leb id 10 (omega (arith, h))) ∙ both_fails (leb 2 id)
 
 is_known : (id : ℕ) → Known id → known id ≡ true
 is_known id k = steps.is_known id k.from k.upto
