@@ -91,7 +91,7 @@ def names_of(files):
         for part in word.split("-"):
             if is_camel(part):
                 turned = snake(part)
-                new[part] = turned + "_of" if turned in functions else turned
+                new[part] = turned + "_of" if turned in functions and not turned.endswith("_of") else turned
     parts = {new.get(d, d) for d in definitions}
     taken = (words - new.keys()) | set(new.values())
     for word in sorted(declared):
@@ -173,6 +173,16 @@ def turned_text(f, text, new, words):
     return "\n".join(turn_line(line, new, (), comment) for line in text.split("\n"))
 
 
+# the outcome of an opening was called `result`, which is the returned value in a clause today
+OPENINGS = re.compile(r"FrameOpening\.\{[^}]*\bresult\b")
+
+
+def with_outcome(f, text):
+    if OPENINGS.search(text) or str(f).endswith("frame_opening/specs/FrameOpening.antt"):
+        return re.sub(r"(?<![\w'.-])result(?![\w'-])", "outcome", text)
+    return text
+
+
 def main():
     files = tracked()
     new, words, declared, functions = names_of(files)
@@ -188,7 +198,7 @@ def main():
     for f in files:
         if f.suffix in (".antt", ".rt", ".edit", ".md") and f.parts[0] != "host" and "notes" not in f.parts:
             text = f.read_text()
-            turned = turned_text(f, text, new, words)
+            turned = with_outcome(f, turned_text(f, text, new, words))
             if turned != text:
                 f.write_text(turned)
     drop_marks()

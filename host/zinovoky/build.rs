@@ -1,5 +1,5 @@
 //! Finds the static library of the proved codec: in the folder that ZINOVOKY_LIB names, else in the repository's
-//! target/staticlib, where `rt staticlib frame_c` writes it. The library is for x86-64, whatever machine wrote it, so
+//! target/staticlib, where `tools/staticlib` writes it. The library is for x86-64, whatever machine wrote it, so
 //! that a build for another processor ends here, with a sentence, and not in the linker.
 
 use std::path::{Path, PathBuf};
@@ -25,7 +25,7 @@ fn main() {
     let archive = folder.join("libframe_c.a");
     if !archive.exists() {
         refuse(&format!(
-            "{} is not there: run `rt staticlib frame_c`, or name its folder in ZINOVOKY_LIB",
+            "{} is not there: run `tools/staticlib`, or name its folder in ZINOVOKY_LIB",
             archive.display()
         ));
     }

@@ -11,7 +11,7 @@ use Rattle.base.specs.Bytes.{pick}
 use Rattle.frame_security.specs.Mic.{same_bytes}
 use Rattle.frame_security.proofs.MicCompared.{same_of_test, test_of_same}
 use Rattle.frame.specs.Conditions.{IsData}
-use Rattle.frame.specs.Layout.{fcnt, mic_of_of}
+use Rattle.frame.specs.Layout.{fcnt, mic_of}
 use Rattle.frame.specs.ReadingNumbers.{on_data}
 use Rattle.frame.specs.Reading.{read_of}
 use Rattle.frame_security.specs.Security.{covered, data_mic_of}
@@ -27,7 +27,7 @@ use Rattle.amend.proofs.OpeningLaws.{open_data_lem, counter_right}
 pub record Accepted (f nwk : List ℕ) (counter : ℕ) : Type 0 where
   pub data_frame : IsData f
   pub low_half : counter % 65536 ≡ fcnt f
-  pub signed : data_mic_of nwk (covered f) counter ≡ mic_of_of f
+  pub signed : data_mic_of nwk (covered f) counter ≡ mic_of f
 
 -- two tests that were both passed
 both_passed : (a b : Bool) (x y z : Opened) → (pick a (pick b x y) z).refusal.number ≡ 0 → (y.refusal.number ≡ 0 → ⊥) → (z.refusal.number ≡ 0 → ⊥)
@@ -43,18 +43,18 @@ module _ (f nwk app : List ℕ) (counter : ℕ) where
       open_data_lem f nwk app counter a.data_frame
       ∙ counter_right f nwk app counter a.low_half
       ∙ ap (λ (t : Bool). pick t (accepted_opening (opened_of f nwk app counter)) (refused_opening (refused 5)))
-      (test_of_same (data_mic_of nwk (covered f) counter) (mic_of_of f) a.signed)
+      (test_of_same (data_mic_of nwk (covered f) counter) (mic_of f) a.signed)
 
   data_passed : IsData f → (open_data f nwk app counter).refusal.number ≡ 0 → Accepted f nwk counter
   unfolding open_data open_checked_of
   data_passed h e =
-      let passed = both_passed (eqb (counter % 65536) (fcnt f)) (same_bytes (data_mic_of nwk (covered f) counter) (mic_of_of f))
+      let passed = both_passed (eqb (counter % 65536) (fcnt f)) (same_bytes (data_mic_of nwk (covered f) counter) (mic_of f))
       (accepted_opening (opened_of f nwk app counter)) (refused_opening (refused 5)) (refused_opening (refused 14)) e
       (λ q. omega arith) (λ q. omega arith) in
       record {
         data_frame = h;
         low_half = eqb-true (counter % 65536) (fcnt f) passed.0;
-        signed = same_of_test (data_mic_of nwk (covered f) counter) (mic_of_of f) passed.1;
+        signed = same_of_test (data_mic_of nwk (covered f) counter) (mic_of f) passed.1;
       }
 
   by_reading : (r : Reading) → Says f r → (on_data (λ d. open_data f nwk app counter) refused_opening r).refusal.number ≡ 0

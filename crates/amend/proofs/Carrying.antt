@@ -12,8 +12,8 @@ use Rattle.cmac.proofs.CmacLaws.{chain_same}
 use Rattle.frame_security.specs.Security.{helper_block_of, message, data_mic_of, mic_block_of}
 use Rattle.frame_security.proofs.SecurityLaws.{helper_block_of_long, helper_block_of_same, data_mic_of_long}
 use Rattle.amend.specs.Amending.{last_place, signed_from, carried, resigned}
-use Rattle.amend.specs.OpenFrame.{chains_of_of}
-use Rattle.amend.proofs.Chains.{table_right, table_rest, carried_table, chains_of_of_long, block_behind}
+use Rattle.amend.specs.OpenFrame.{chains_of}
+use Rattle.amend.proofs.Chains.{table_right, table_rest, carried_table, chains_of_long, block_behind}
 use Rattle.amend.proofs.OpeningLaws.{signed-mic}
 
 module _ (f : List ℕ) (counter n p e : ℕ) (start : 5 ≤ p) (inside : p < n) (top : n ≤ 251) (long : n ≤ length f) where
@@ -56,15 +56,15 @@ module _ (f : List ℕ) (counter n p e : ℕ) (start : 5 ≤ p) (inside : p < n)
       ∙ ap (λ (k : ℕ). take k (b' ++ take n (set f p e))) place'
 
   pub carried-message : (ks : List ℕ)
-      → carried ks (set f p e) n p (chains_of_of ks (message (take n f) counter) (last_place n))
-      ≡ chains_of_of ks (message (take n (set f p e)) counter) (last_place n)
+      → carried ks (set f p e) n p (chains_of ks (message (take n f) counter) (last_place n))
+      ≡ chains_of ks (message (take n (set f p e)) counter) (last_place n)
   unfolding message mic_block_of
   carried-message ks =
       let m = message (take n f) counter in
       let m' = message (take n (set f p e)) counter in
       let last = last_place n in
       let b' = helper_block_of 0x49 (take n (set f p e)) counter (length (take n (set f p e)) % 256) in
-      carried_table ks m' last (set f p e) (chains_of_of ks m last) (p / 16) (chains_of_of_long ks m last) (omega arith) (omega arith)
+      carried_table ks m' last (set f p e) (chains_of ks m last) (p / 16) (chains_of_long ks m last) (omega arith) (omega arith)
       (λ j l. table_right ks m last j (omega arith) (omega arith) ∙ chain_same ks m m' (p / 16 + 1) blocks_same (j + 1) (omega arith))
       (λ j l g. table_rest ks m last j l g)
       (λ j l g.
@@ -74,7 +74,7 @@ module _ (f : List ℕ) (counter n p e : ℕ) (start : 5 ≤ p) (inside : p < n)
 
   -- the frame after signing anew: what is covered, its MIC, and what stood behind
   pub resigned-message : (nwk : List ℕ) → n + 4 ≤ length f
-      → resigned (key_expansion_of nwk) (set f p e) n p (chains_of_of (key_expansion_of nwk) (message (take n f) counter) (last_place n))
+      → resigned (key_expansion_of nwk) (set f p e) n p (chains_of (key_expansion_of nwk) (message (take n f) counter) (last_place n))
       ≡ take n (set f p e) ++ data_mic_of nwk (take n (set f p e)) counter ++ drop (n + 4) f
   resigned-message nwk room =
       let ks = key_expansion_of nwk in

@@ -24,7 +24,7 @@ use Rattle.cmac.specs.Rfc4493.{chain, tag}
 use Rattle.cmac.specs.Running.{resumed, absorbed, finished}
 use Rattle.cmac.proofs.CmacLaws.{chain_suc, chain_long, resume}
 use Rattle.amend.specs.Amending.{last_place, chained, signed_from}
-use Rattle.amend.specs.OpenFrame.{chains_of_of}
+use Rattle.amend.specs.OpenFrame.{chains_of}
 use Rattle.amend.proofs.Stores.{part_before, part_after, part-stored, drop-take}
 
 -- place i holds the chain value of the message m ahead of the frame's block i
@@ -111,14 +111,14 @@ carry_done ks f to i chains h =
 -- ---- the whole table
 
 module _ (ks m : List ℕ) (last : ℕ) where
-  pub chains_of_of_long : length (chains_of_of ks m last) ≡ 256
-  unfolding chains_of_of
-  chains_of_of_long = length-tab 256 (λ j. pick (leb (j / 16) last) (at (chain ks m (j / 16 + 1)) (j % 16)) 0)
+  pub chains_of_long : length (chains_of ks m last) ≡ 256
+  unfolding chains_of
+  chains_of_long = length-tab 256 (λ j. pick (leb (j / 16) last) (at (chain ks m (j / 16 + 1)) (j % 16)) 0)
 
-  chains_of_of-at : (j : ℕ) → j < 256
-      → at (chains_of_of ks m last) j ≡ pick (leb (j / 16) last) (at (chain ks m (j / 16 + 1)) (j % 16)) 0
-  unfolding chains_of_of
-  chains_of_of-at = at-tab 256 (λ j. pick (leb (j / 16) last) (at (chain ks m (j / 16 + 1)) (j % 16)) 0)
+  chains_of-at : (j : ℕ) → j < 256
+      → at (chains_of ks m last) j ≡ pick (leb (j / 16) last) (at (chain ks m (j / 16 + 1)) (j % 16)) 0
+  unfolding chains_of
+  chains_of-at = at-tab 256 (λ j. pick (leb (j / 16) last) (at (chain ks m (j / 16 + 1)) (j % 16)) 0)
 
 -- a byte by the block that holds it
 pub by_block : (s : List ℕ) (j : ℕ) → at s j ≡ at (part (16 * (j / 16)) 16 s) (j % 16)
@@ -128,38 +128,38 @@ by_block s j =
 
 module _ (ks m : List ℕ) (last : ℕ) where
   -- within the table each place is right
-  pub table_right : (i : ℕ) → i < 16 → i ≤ last → Right ks m (chains_of_of ks m last) i
+  pub table_right : (i : ℕ) → i < 16 → i ≤ last → Right ks m (chains_of ks m last) i
   table_right i h l =
-      same_at 16 (part (16 * i) 16 (chains_of_of ks m last)) (chain ks m (i + 1))
-      (part_long (16 * i) 16 (chains_of_of ks m last) (omega (arith, chains_of_of_long ks m last)))
+      same_at 16 (part (16 * i) 16 (chains_of ks m last)) (chain ks m (i + 1))
+      (part_long (16 * i) 16 (chains_of ks m last) (omega (arith, chains_of_long ks m last)))
       (chain_long ks m (i + 1))
       (λ k b.
       let block : (16 * i + k) / 16 ≡ i = omega arith in
       let place : (16 * i + k) % 16 ≡ k = omega arith in
-      at_part (16 * i) 16 (chains_of_of ks m last) k b
-      ∙ chains_of_of-at ks m last (16 * i + k) (omega arith)
+      at_part (16 * i) 16 (chains_of ks m last) k b
+      ∙ chains_of-at ks m last (16 * i + k) (omega arith)
       ∙ ap₂ (λ (n q : ℕ). pick (leb n last) (at (chain ks m (n + 1)) q) 0) block place
       ∙ ap (λ (t : Bool). pick t (at (chain ks m (i + 1)) k) 0) (le-leb i last l))
 
   -- and past the last one it has zeros
-  pub table_rest : (i : ℕ) → i < 16 → last < i → part (16 * i) 16 (chains_of_of ks m last) ≡ const_zero
+  pub table_rest : (i : ℕ) → i < 16 → last < i → part (16 * i) 16 (chains_of ks m last) ≡ const_zero
   table_rest i h l =
-      same_at 16 (part (16 * i) 16 (chains_of_of ks m last)) const_zero
-      (part_long (16 * i) 16 (chains_of_of ks m last) (omega (arith, chains_of_of_long ks m last)))
+      same_at 16 (part (16 * i) 16 (chains_of ks m last)) const_zero
+      (part_long (16 * i) 16 (chains_of ks m last) (omega (arith, chains_of_long ks m last)))
       refl
       (λ k b.
       let block : (16 * i + k) / 16 ≡ i = omega arith in
-      at_part (16 * i) 16 (chains_of_of ks m last) k b
-      ∙ chains_of_of-at ks m last (16 * i + k) (omega arith)
+      at_part (16 * i) 16 (chains_of ks m last) k b
+      ∙ chains_of-at ks m last (16 * i + k) (omega arith)
       ∙ ap (λ (n : ℕ). pick (leb n last) (at (chain ks m (n + 1)) ((16 * i + k) % 16)) 0) block
       ∙ ap (λ (t : Bool). pick t (at (chain ks m (i + 1)) ((16 * i + k) % 16)) 0) (lt-leb i last l)
       ∙ sym (get_or-replicate 16 k 0 0 b))
 
   -- a string of 256 bytes that is right up to the last place and has zeros behind is the table
   pub table : (s : List ℕ) → length s ≡ 256 → ((i : ℕ) → i ≤ last → Right ks m s i)
-      → ((i : ℕ) → i < 16 → last < i → part (16 * i) 16 s ≡ const_zero) → s ≡ chains_of_of ks m last
+      → ((i : ℕ) → i < 16 → last < i → part (16 * i) 16 s ≡ const_zero) → s ≡ chains_of ks m last
   table s long right rest =
-      same_at 256 s (chains_of_of ks m last) long (chains_of_of_long ks m last)
+      same_at 256 s (chains_of ks m last) long (chains_of_long ks m last)
       (λ j b.
       by_block s j
       ∙ by_order (j / 16) last
@@ -170,13 +170,13 @@ module _ (ks m : List ℕ) (last : ℕ) where
       ap (λ (p : List ℕ). at p (j % 16)) (rest (j / 16) (omega arith) g)
       ∙ get_or-replicate 16 (j % 16) 0 0 (omega arith)
       ∙ ap (λ (t : Bool). pick t (at (chain ks m (j / 16 + 1)) (j % 16)) 0) (sym (lt-leb (j / 16) last g)))
-      ∙ sym (chains_of_of-at ks m last j b))
+      ∙ sym (chains_of-at ks m last j b))
 
   -- carrying on from a right place gives the table
   pub carried_table : (f chains : List ℕ) (i : ℕ) → length chains ≡ 256 → i ≤ last → last ≤ 15
       → ((j : ℕ) → j ≤ i → Right ks m chains j) → ((j : ℕ) → j < 16 → last < j → part (16 * j) 16 chains ≡ const_zero)
       → ((j : ℕ) → i ≤ j → j < last → part (16 * j) 16 f ≡ part (16 * (j + 1)) 16 m)
-      → chained ks f (last - i) i chains ≡ chains_of_of ks m last
+      → chained ks f (last - i) i chains ≡ chains_of ks m last
   carried_table f chains i long h top right rest blocks =
       table (chained ks f (last - i) i chains) (chained_long ks f (last - i) i chains ∙ long)
       (λ j l.

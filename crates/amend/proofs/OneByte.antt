@@ -18,7 +18,7 @@ use Rattle.frame_security.specs.Security.{stream_at, covered, message, data_mic_
 use Rattle.frame.proofs.LayoutLaws.{placed, length-header, length-payload}
 use Rattle.frame_security.proofs.SecurityLaws.{by_same, stream_at_same, crypted_twice, crypted-set}
 use Rattle.amend.specs.Amending.{open_state, encrypted_byte, payload_length_of, last_place, carried, resigned, amended_to, schedule}
-use Rattle.amend.specs.OpenFrame.{held, chains_of_of, opened_of}
+use Rattle.amend.specs.OpenFrame.{held, chains_of, opened_of}
 use Rattle.amend.specs.AmendmentLists.{clear_of}
 use Rattle.amend.proofs.Accepted.{Accepted}
 use Rattle.amend.proofs.Carrying.{carried-message, resigned-message}
@@ -155,17 +155,17 @@ module _ (f nwk app : List ℕ) (counter k v : ℕ) (a : Accepted f nwk counter)
   below = omega (arith, length-payload f, (placed f h).payload)
 
   chains_are : carried (key_expansion_of nwk) (set (held f) place byte) (length f - 4) place
-      (chains_of_of (key_expansion_of nwk) (message (covered f) counter) (last_place (length f - 4)))
-      ≡ chains_of_of (key_expansion_of nwk) (message (covered g) counter) (last_place (length f - 4))
+      (chains_of (key_expansion_of nwk) (message (covered f) counter) (last_place (length f - 4)))
+      ≡ chains_of (key_expansion_of nwk) (message (covered g) counter) (last_place (length f - 4))
   chains_are =
       let n = length f - 4 in
       let ks = key_expansion_of nwk in
-      ap (λ (m : List ℕ). carried ks (set (held f) place byte) n place (chains_of_of ks (message m counter) (last_place n))) (sym covered-held)
+      ap (λ (m : List ℕ). carried ks (set (held f) place byte) n place (chains_of ks (message m counter) (last_place n))) (sym covered-held)
       ∙ carried-message (held f) counter n place byte in_front below (omega (arith, h.most)) (omega (arith, held_long f h.most, h.most)) ks
-      ∙ ap (λ (m : List ℕ). chains_of_of ks (message m counter) (last_place n)) covered_is
+      ∙ ap (λ (m : List ℕ). chains_of ks (message m counter) (last_place n)) covered_is
 
   frame_is : resigned (key_expansion_of nwk) (set (held f) place byte) (length f - 4) place
-      (chains_of_of (key_expansion_of nwk) (message (covered f) counter) (last_place (length f - 4)))
+      (chains_of (key_expansion_of nwk) (message (covered f) counter) (last_place (length f - 4)))
       ≡ held g
   unfolding held
   frame_is =
@@ -176,7 +176,7 @@ module _ (f nwk app : List ℕ) (counter k v : ℕ) (a : Accepted f nwk counter)
       ap (λ (m : List ℕ). covered g ++ m) again.signed ∙ take-append-drop (length g - 4) g in
       let rest : drop (n + 4) (held f) ≡ replicate {A = ℕ} (255 - length g) 0 =
       held_rest f h.most (n + 4) (sym room) ∙ ap (λ (l : ℕ). replicate {A = ℕ} (255 - l) 0) (sym long_is) in
-      ap (λ (m : List ℕ). resigned ks (set (held f) place byte) n place (chains_of_of ks (message m counter) (last_place n))) (sym covered-held)
+      ap (λ (m : List ℕ). resigned ks (set (held f) place byte) n place (chains_of ks (message m counter) (last_place n))) (sym covered-held)
       ∙ resigned-message (held f) counter n place byte in_front below (omega (arith, h.most)) (omega (arith, held_long f h.most, h.most)) nwk
       (omega (arith, held_long f h.most, h.most, room))
       ∙ ap₂ (λ (m r : List ℕ). m ++ data_mic_of nwk m counter ++ r) covered_is rest
@@ -193,5 +193,5 @@ module _ (f nwk app : List ℕ) (counter k v : ℕ) (a : Accepted f nwk counter)
       ∙ ap
       (λ (n : ℕ).
       open_state (held g) n (key_expansion_of nwk) (key_expansion_of app) counter
-      (chains_of_of (key_expansion_of nwk) (message (covered g) counter) (last_place (n - 4))))
+      (chains_of (key_expansion_of nwk) (message (covered g) counter) (last_place (n - 4))))
       (sym long_is)

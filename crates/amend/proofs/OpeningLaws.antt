@@ -21,7 +21,7 @@ use Rattle.cmac.specs.Doubling.{const_zero}
 use Rattle.cmac.specs.Rfc4493.{chain, mac}
 use Rattle.cmac.proofs.CmacLaws.{chain_zero, chain_suc}
 use Rattle.frame.specs.Conditions.{IsData}
-use Rattle.frame.specs.Layout.{fcnt, mic_of_of}
+use Rattle.frame.specs.Layout.{fcnt, mic_of}
 use Rattle.frame.specs.ReadingNumbers.{other_refusal_of, on_data}
 use Rattle.frame.specs.Reading.{data_of, read_of}
 use Rattle.frame.specs.declared.parser.DataFrame.{DataFrame}
@@ -32,7 +32,7 @@ use Rattle.frame_security.proofs.SecurityLaws.{mic_block_of_long}
 use Rattle.frame.specs.Refusals.{refused}
 use Rattle.amend.specs.Amending.{open_state, last_place, chained, signed_from}
 use Rattle.amend.specs.declared.amending.Open.{Open}
-use Rattle.amend.specs.OpenFrame.{held, chains_of_of, opened_of, refused_opening, accepted_opening, open_checked_of, open_data, open_of}
+use Rattle.amend.specs.OpenFrame.{held, chains_of, opened_of, refused_opening, accepted_opening, open_checked_of, open_data, open_of}
 use Rattle.frame_security.specs.Security.{covered, mic_block_of, message, data_mic_of}
 use Rattle.amend.proofs.Stores.{part_after, part-stored}
 use Rattle.amend.proofs.Chains.{Right, table_right, carried_table, block_behind, signed_right}
@@ -52,7 +52,7 @@ module _ (ks f : List ℕ) (counter : ℕ) (lo : 12 ≤ length f) (hi : length f
   -- the chain values that opening computes
   pub opened_table : (b : List ℕ) → b ≡ mic_block_of (covered f) counter
       → chained ks f (last_place (length f - 4) - 0) 0 (sets (replicate {A = ℕ} 256 0) 0 (cipher ks (xor_lists const_zero b)))
-      ≡ chains_of_of ks (message (covered f) counter) (last_place (length f - 4))
+      ≡ chains_of ks (message (covered f) counter) (last_place (length f - 4))
   unfolding message
   opened_table b eb =
       let n = length f - 4 in
@@ -73,38 +73,38 @@ module _ (ks f : List ℕ) (counter : ℕ) (lo : 12 ≤ length f) (hi : length f
       subst (λ (i : ℕ). Right ks m (sets none 0 x) i) here right)
       (λ j l g. part_after (16 * j) 16 none 0 x (omega arith) ∙ part-zeros (16 * j) 16 256 (omega arith))
       (λ j l g. block_behind b f n j b-long (omega arith))
-      ∙ ap (λ (q : List ℕ). chains_of_of ks q last)
+      ∙ ap (λ (q : List ℕ). chains_of ks q last)
       (ap (λ (q : List ℕ). q ++ covered f) eb)
 
 -- the MIC of the first n bytes, from the chain values of the message that they make
 pub signed-mic : (nwk g : List ℕ) (counter n : ℕ) → 0 < n → n ≤ 251 → n ≤ length g
-    → signed_from (key_expansion_of nwk) g n (chains_of_of (key_expansion_of nwk) (message (take n g) counter) (last_place n))
+    → signed_from (key_expansion_of nwk) g n (chains_of (key_expansion_of nwk) (message (take n g) counter) (last_place n))
     ≡ data_mic_of nwk (take n g) counter
 unfolding data_mic_of mic mac message
 signed-mic nwk g counter n lo hi inside =
     let ks = key_expansion_of nwk in
     let b = mic_block_of (take n g) counter in
     let m = b ++ take n g in
-    signed_right ks b g n (chains_of_of ks m (last_place n)) (mic_block_of_long (take n g) counter) lo
+    signed_right ks b g n (chains_of ks m (last_place n)) (mic_block_of_long (take n g) counter) lo
     inside (table_right ks m (last_place n) (last_place n) (omega arith) (omega arith))
 
 -- the test that the code makes, of the MIC from its own chain values and the frame's last four bytes
 pub tested_is : (f nwk : List ℕ) (counter : ℕ) {ks chains m g : List ℕ} {t : Bool} → 12 ≤ length f → length f ≤ 255
-    → ks ≡ key_expansion_of nwk → chains ≡ chains_of_of ks (message (covered f) counter) (last_place (length f - 4))
-    → m ≡ signed_from ks f (length f - 4) chains → g ≡ mic_of_of f → t ≡ same_bytes m g
-    → t ≡ same_bytes (data_mic_of nwk (covered f) counter) (mic_of_of f)
+    → ks ≡ key_expansion_of nwk → chains ≡ chains_of ks (message (covered f) counter) (last_place (length f - 4))
+    → m ≡ signed_from ks f (length f - 4) chains → g ≡ mic_of f → t ≡ same_bytes m g
+    → t ≡ same_bytes (data_mic_of nwk (covered f) counter) (mic_of f)
 tested_is f nwk counter lo hi hk hc hm hg ht =
     let n = length f - 4 in
     ht
     ∙ ap₂ same_bytes
     (hm
     ∙ ap₂ (λ (k c : List ℕ). signed_from k f n c) hk
-    (hc ∙ ap (λ (k : List ℕ). chains_of_of k (message (covered f) counter) (last_place n)) hk)
+    (hc ∙ ap (λ (k : List ℕ). chains_of k (message (covered f) counter) (last_place n)) hk)
     ∙ signed-mic nwk f counter n (omega arith) (omega arith) (omega arith))
     hg
 
 -- the answer by that test: the state, or 5
-module _ (f nwk app : List ℕ) (counter : ℕ) {t : Bool} (e : t ≡ same_bytes (data_mic_of nwk (covered f) counter) (mic_of_of f)) where
+module _ (f nwk app : List ℕ) (counter : ℕ) {t : Bool} (e : t ≡ same_bytes (data_mic_of nwk (covered f) counter) (mic_of f)) where
   pub checked_opens : t ≡ true → {s : Open} → s ≡ opened_of f nwk app counter → accepted_opening s ≡ open_checked_of f nwk app counter
   unfolding open_checked_of
   checked_opens h made =
@@ -133,14 +133,14 @@ stored_frame f h =
 
 -- the state by what the code computes
 pub opened_is : (f nwk app : List ℕ) (counter : ℕ) {g ks ks' chains : List ℕ} → g ≡ held f → ks ≡ key_expansion_of nwk
-    → ks' ≡ key_expansion_of app → chains ≡ chains_of_of ks (message (covered f) counter) (last_place (length f - 4))
+    → ks' ≡ key_expansion_of app → chains ≡ chains_of ks (message (covered f) counter) (last_place (length f - 4))
     → open_state g (length f) ks ks' counter chains ≡ opened_of f nwk app counter
 unfolding opened_of
 opened_is f nwk app counter {g} {ks} {ks'} {chains} hg hk hk' hc =
     let m = message (covered f) counter in
     let last = last_place (length f - 4) in
     ap₂ (λ (x y : List ℕ). open_state x (length f) ks ks' counter y) hg hc
-    ∙ ap₂ (λ (x y : List ℕ). open_state (held f) (length f) x y counter (chains_of_of x m last)) hk hk'
+    ∙ ap₂ (λ (x y : List ℕ). open_state (held f) (length f) x y counter (chains_of x m last)) hk hk'
 
 -- ---- the answers
 

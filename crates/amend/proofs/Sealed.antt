@@ -9,7 +9,7 @@ use lib.ListN.{length, take, drop, length-append, get_or-append}
 use lib.Seq.{take_at, drop_at, take-add, get_or-take}
 use Rattle.base.specs.Bytes.{at, part}
 use Rattle.frame.specs.Conditions.{IsData}
-use Rattle.frame.specs.Layout.{fcnt, payload_end_of, header_end_of, header, payload, mic_of_of}
+use Rattle.frame.specs.Layout.{fcnt, payload_end_of, header_end_of, header, payload, mic_of}
 use Rattle.frame_security.specs.Sealing.{enciphered, sealed}
 use Rattle.frame_security.specs.Security.{crypted, covered, data_mic_of, frame_key, payload_key_of}
 use Rattle.frame.proofs.LayoutLaws.{placed, parts, length-header, length-payload}
@@ -50,7 +50,7 @@ accepted-sealed f nwk app counter a =
     sealed_by f nwk app counter (clear_of f nwk app counter) (clear_long f nwk app counter)
     ∙ ap (λ (l : List ℕ). l ++ data_mic_of nwk l counter) body
     ∙ ap₂ (λ (l m : List ℕ). l ++ m) (sym (covered_parts f a.data_frame)) a.signed
-    ∙ append_assoc (header f) (payload f) (mic_of_of f)
+    ∙ append_assoc (header f) (payload f) (mic_of f)
     ∙ parts f
 
 module _ (f nwk app : List ℕ) (counter : ℕ) (h : IsData f) (p : List ℕ) (same : length p ≡ length (payload f)) where
@@ -81,7 +81,7 @@ module _ (f nwk app : List ℕ) (counter : ℕ) (h : IsData f) (p : List ℕ) (s
       ∙ ap (take (length f - 4)) sealed_is
       ∙ take_at body (data_mic_of nwk body counter) (length f - 4) body_long
 
-  sealed-mic : mic_of_of (sealed nwk app counter (header f) p) ≡ data_mic_of nwk body counter
+  sealed-mic : mic_of (sealed nwk app counter (header f) p) ≡ data_mic_of nwk body counter
   sealed-mic =
       ap (λ (n : ℕ). drop (n - 4) (sealed nwk app counter (header f) p)) sealed_long
       ∙ ap (drop (length f - 4)) sealed_is

@@ -7,7 +7,7 @@ use Rattle.base.specs.Bytes.{pick, tab, at, zeros}
 use Rattle.aes.specs.KeyExpansion.{key_expansion_of}
 use Rattle.cmac.specs.Rfc4493.{chain}
 use Rattle.frame_security.specs.Mic.{same_bytes}
-use Rattle.frame.specs.Layout.{fcnt, mic_of_of}
+use Rattle.frame.specs.Layout.{fcnt, mic_of}
 use Rattle.frame.specs.ReadingNumbers.{on_data}
 use Rattle.frame.specs.Reading.{read_of}
 use Rattle.frame.specs.Refusals.{refused, not_refused}
@@ -22,14 +22,14 @@ unfoldable pub held : List ℕ → List ℕ
 held f = f ++ zeros (255 - length f)
 
 -- the chain values of the message m ahead of the frame's blocks 0 to last, sixteen bytes each, then zeros
-unfoldable pub chains_of_of : List ℕ → List ℕ → ℕ → List ℕ
-chains_of_of ks m last = tab 256 (λ j. pick (leb (j / 16) last) (at (chain ks m (j / 16 + 1)) (j % 16)) 0)
+unfoldable pub chains_of : List ℕ → List ℕ → ℕ → List ℕ
+chains_of ks m last = tab 256 (λ j. pick (leb (j / 16) last) (at (chain ks m (j / 16 + 1)) (j % 16)) 0)
 
 -- the state of an open frame
 unfoldable pub opened_of : List ℕ → List ℕ → List ℕ → ℕ → Open
 opened_of f nwk app counter =
     open_state (held f) (length f) (key_expansion_of nwk) (key_expansion_of app) counter
-    (chains_of_of (key_expansion_of nwk) (message (covered f) counter) (last_place (length f - 4)))
+    (chains_of (key_expansion_of nwk) (message (covered f) counter) (last_place (length f - 4)))
 
 -- the state of a refused opening
 unfoldable pub nothing : Open
@@ -44,7 +44,7 @@ accepted_opening s = record { refusal = not_refused; state = s }
 -- 5 where the MIC differs
 unfoldable pub open_checked_of : List ℕ → List ℕ → List ℕ → ℕ → Opened
 open_checked_of f nwk app counter =
-    pick (same_bytes (data_mic_of nwk (covered f) counter) (mic_of_of f)) (accepted_opening (opened_of f nwk app counter))
+    pick (same_bytes (data_mic_of nwk (covered f) counter) (mic_of f)) (accepted_opening (opened_of f nwk app counter))
     (refused_opening (refused 5))
 
 -- of a data frame: 14 where the counter's low half is not the frame's

@@ -15,7 +15,7 @@ use frame_security::securityhelpers::{by_network_key, start_of, stream_block};
 // An open frame: the bytes of the frame (zeros behind them) and how many they are, both keys expanded, the whole
 // counter, and what the MIC's chain holds ahead of each 16-byte block of the frame, sixteen bytes each. The state of a
 // refused opening is all zeros.
-#[derive(Drop)]
+#[derive(Clone, Copy)]
 pub struct Open {
     pub frame: [u8; 255],
     pub length: usize,
@@ -26,7 +26,7 @@ pub struct Open {
 }
 
 // What an amendment gives: 0 and the amended state, or a refusal and the state that it was given.
-#[derive(Drop)]
+#[derive(Clone, Copy)]
 pub struct Amended {
     pub refusal: Refusal,
     pub state: Open,

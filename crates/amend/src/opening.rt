@@ -2,7 +2,7 @@
 ghost use Rattle.std.specs.Prelude.{◌≡◌, ◌-◌, ◌≤◌, length};
 ghost use Rattle.frame_security.specs.Security.{covered, message};
 ghost use Rattle.amend.specs.Amending.{last_place};
-ghost use Rattle.amend.specs.OpenFrame.{chains_of_of, nothing, refused_opening, open_checked_of, open_of};
+ghost use Rattle.amend.specs.OpenFrame.{chains_of, nothing, refused_opening, open_checked_of, open_of};
 
 use crate::amending::{Open, carry_on, sign_from};
 use base::storing::{four_at, put};
@@ -14,7 +14,7 @@ use frame_security::mic::same_mic;
 use frame_security::securityhelpers::mic_block;
 
 // What opening gives: 0 and the open frame, or a refusal and the state that is all zeros.
-#[derive(Drop)]
+#[derive(Clone, Copy)]
 pub struct Opened {
     pub refusal: Refusal,
     pub state: Open,
@@ -48,7 +48,7 @@ fn not_opened(refusal: Refusal) -> Opened
 // The chain values of a frame's MIC ahead of each block of the frame.
 fn chains_of(schedule: &[u8; 176], frame: &[u8], counter: u32) -> [u8; 256]
     requires { (12 ≤ length frame.now) × (length frame.now ≤ 255) }
-    ensures { result ≡ chains_of_of schedule.now (message (covered frame.now) counter) (last_place (length frame.now - 4)) }
+    ensures { result ≡ chains_of schedule.now (message (covered frame.now) counter) (last_place (length frame.now - 4)) }
 {
     let n = frame.len() - MIC_LEN;
     let first = mic_block(&frame[..n], counter);

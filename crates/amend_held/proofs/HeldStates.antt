@@ -16,7 +16,7 @@ use Rattle.amend.specs.declared.amending.Amended.{Amended}
 use Rattle.amend.specs.Amending.{stop, payload_length_of, encrypted_byte, last_place, signed_from, carried, amended_to, amend_of}
 use Rattle.amend.specs.OpenFrame.{opened_of}
 use Rattle.amend.specs.AmendmentLists.{Amendment, amended_by}
-use Rattle.amend.proofs.Chains.{chained_long, chains_of_of_long}
+use Rattle.amend.proofs.Chains.{chained_long, chains_of_long}
 use Rattle.amend.proofs.OneByte.{held_long}
 use Rattle.amend.proofs.Within.{amend_inside, amend_outside}
 use Rattle.amend_held.proofs.HeldUndone.{Holds}
@@ -40,7 +40,7 @@ opened_holds f nwk app counter most below =
         frame = held_long f most;
         nwk = schedule_long nwk;
         app = schedule_long app;
-        chains = chains_of_of_long (key_expansion_of nwk) (message (covered f) counter) (last_place (length f - 4));
+        chains = chains_of_long (key_expansion_of nwk) (message (covered f) counter) (last_place (length f - 4));
       };
       most = most;
       below = below;

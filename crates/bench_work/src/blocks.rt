@@ -4,11 +4,9 @@ use crate::KEY;
 pub(crate) fn encrypted() -> [u8; 16] {
     let schedule = aes::key_expansion::expand(KEY);
     let mut block = [0u8; 16];
-    let mut n: usize = 0;
-    while n < 200000 {
+    for _ in 0..200000 {
         let next = aes::encrypt_under(&schedule, block);
         block = next;
-        n += 1;
     }
     block
 }
@@ -16,11 +14,9 @@ pub(crate) fn encrypted() -> [u8; 16] {
 pub(crate) fn decrypted() -> [u8; 16] {
     let schedule = aes::key_expansion::expand(KEY);
     let mut block = [0u8; 16];
-    let mut n: usize = 0;
-    while n < 200000 {
+    for _ in 0..200000 {
         let next = aes::decrypt_under(&schedule, block);
         block = next;
-        n += 1;
     }
     block
 }

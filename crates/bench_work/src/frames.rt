@@ -8,11 +8,9 @@ use frame_build::creator::data_frame::DataParts;
 pub(crate) fn tags() -> [u8; 16] {
     let message = [7u8; 267];
     let mut key = KEY;
-    let mut n: usize = 0;
-    while n < 1000 {
+    for _ in 0..1000 {
         let next = cmac::tag(key, &message);
         key = next;
-        n += 1;
     }
     key
 }
@@ -21,11 +19,9 @@ pub(crate) fn tags() -> [u8; 16] {
 pub(crate) fn mics() -> [u8; 4] {
     let message = [7u8; 251];
     let mut mic = [0u8; 4];
-    let mut n: u32 = 0;
-    while n < 1000 {
+    for n in 0..1000 {
         let next = frame_security::securityhelpers::calculate_data_mic(KEY, &message, n);
         mic = next;
-        n += 1;
     }
     mic
 }
@@ -51,12 +47,10 @@ pub(crate) fn longest() -> Open {
 // The longest frame after so many amendments of one byte of its payload.
 pub(crate) fn amendments(opened: Open, offset: usize, turns: usize) -> [u8; 255] {
     let mut state = opened;
-    let mut n: usize = 0;
-    while n < turns {
+    for n in 0..turns {
         let after = state.amend(offset, (n % 256) as u8);
         let next = after.state;
         state = next;
-        n += 1;
     }
     let bytes = state.frame;
     bytes

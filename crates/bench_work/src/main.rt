@@ -1,7 +1,9 @@
 // A piece of work for bench/ to count and time, which the first letter of standard input names. What comes of it is written
 // as a line of hex.
 #![tactic(auto)]
-use libc::{STDIN_FILENO, STDOUT_FILENO};
+
+use std::io;
+use std::io::{BufWriter, Read, Write};
 
 mod blocks;
 mod frames;
@@ -12,36 +14,38 @@ fn wide(b: u8) -> u64 {
     b as u64
 }
 
-fn put_digits(bytes: &[u8]) {
-    let mut i: usize = 0;
-    while i < bytes.len() {
-        io::print_hex(STDOUT_FILENO, wide(bytes[i]), 2);
-        i += 1;
+fn put_digits<W: Write>(out: &mut W, bytes: &[u8]) -> io::Result<()> {
+    for b in bytes {
+        write!(out, "{:02x}", wide(*b))?;
     }
+    Ok(())
 }
 
-fn hex_line(bytes: &[u8]) {
-    put_digits(bytes);
-    io::write_all(STDOUT_FILENO, b"\n");
+fn hex_line<W: Write>(out: &mut W, bytes: &[u8]) -> io::Result<()> {
+    put_digits(out, bytes)?;
+    out.write_all(b"\n")
 }
 
 // Nothing comes of another letter. There is one letter to a run: a loop around the work would change what the compiler
 // builds into it, and with that the counts.
-fn work(letter: u8) {
+fn work<W: Write>(out: &mut W, letter: u8) -> io::Result<()> {
     match letter {
-        b'e' => hex_line(&blocks::encrypted()),
-        b'd' => hex_line(&blocks::decrypted()),
-        b'm' => hex_line(&frames::tags()),
-        b's' => hex_line(&frames::mics()),
-        b'f' => hex_line(&frames::amendments(frames::longest(), 0, 1000)),
-        b'l' => hex_line(&frames::amendments(frames::longest(), 241, 1000)),
-        b'o' => hex_line(&frames::amendments(frames::longest(), 0, 0)),
-        _ => (),
+        b'e' => hex_line(out, &blocks::encrypted()),
+        b'd' => hex_line(out, &blocks::decrypted()),
+        b'm' => hex_line(out, &frames::tags()),
+        b's' => hex_line(out, &frames::mics()),
+        b'f' => hex_line(out, &frames::amendments(frames::longest(), 0, 1000)),
+        b'l' => hex_line(out, &frames::amendments(frames::longest(), 241, 1000)),
+        b'o' => hex_line(out, &frames::amendments(frames::longest(), 0, 0)),
+        _ => Ok(()),
     }
 }
 
-fn main() {
+fn main(rt: HostRuntime) -> io::Result<()> {
     let mut letter = [0u8; 1];
-    libc::read(STDIN_FILENO, &mut letter);
-    work(letter[0]);
+    rt.reader().read(&mut letter)?;
+    let mut out = BufWriter::new(rt.alloc(), rt.stdout())?;
+    // What was written is compared with the file `stdout`, where a lost line is seen.
+    let _ = work(&mut out, letter[0]);
+    Ok(())
 }

@@ -13,7 +13,7 @@ mod blocks;
 
 // A tag under way. `chain` already holds the bytes of the open block, `filled` says how many those are. A full block
 // is enciphered only when a further byte comes, since the last block of a message is treated apart.
-#[derive(Drop)]
+#[derive(Clone, Copy)]
 pub struct Cmac {
     pub schedule: [u8; 176],
     pub chain: [u8; 16],

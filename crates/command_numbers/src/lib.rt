@@ -5,7 +5,7 @@
 ghost use Rattle.std.specs.Prelude.{◌≡◌, [], ◌∷◌, length};
 ghost use Rattle.mac_commands.specs.Layout.{row, fields_of};
 ghost use Rattle.mac_commands.specs.Commands.{fields_written, fields_in};
-ghost use Rattle.command_numbers.specs.Numbers.{signed_of, six_of_of, unsigned_of_of, id_of_number, bits_of_number, id_given, values_given};
+ghost use Rattle.command_numbers.specs.Numbers.{signed_of, six_of, unsigned_of, id_of_number, bits_of_number, id_given, values_given};
 
 use mac_commands::maccommandcreator::{Written, raw_of, write_fields};
 use mac_commands::maccommands::{margin_of, values_of};
@@ -26,7 +26,7 @@ fn signed_of(row: usize, x: u32) -> i64
 }
 
 fn six_of(row: usize, a: u32, b: u32, c: u32, d: u32, e: u32) -> [i64; 6]
-    ensures { result ≡ six_of_of row (a ∷ b ∷ c ∷ d ∷ e ∷ []) }
+    ensures { result ≡ six_of row (a ∷ b ∷ c ∷ d ∷ e ∷ []) }
 {
     let second = signed_of(row, b);
     [
@@ -41,7 +41,7 @@ fn six_of(row: usize, a: u32, b: u32, c: u32, d: u32, e: u32) -> [i64; 6]
 
 // The six numbers of a row and of the number behind its identifier, as reading finds them.
 pub fn numbers_of(r: usize, v: u64) -> [i64; 6]
-    ensures { result ≡ six_of_of r (fields_of (row r) v) }
+    ensures { result ≡ six_of r (fields_of (row r) v) }
 {
     let x = values_of(r, v);
     six_of(r, x[0], x[1], x[2], x[3], x[4])
@@ -49,7 +49,7 @@ pub fn numbers_of(r: usize, v: u64) -> [i64; 6]
 
 // A number as a value. What 32 bits cannot hold becomes the largest that they can, which no field holds either.
 fn unsigned_of(z: i64) -> u32
-    ensures { result ≡ unsigned_of_of z }
+    ensures { result ≡ unsigned_of z }
 {
     if z < 0 {
         return 4294967295;

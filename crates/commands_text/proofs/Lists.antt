@@ -9,7 +9,7 @@ use lib.ListN.{length}
 use borrow.Author.Tests.{leb-true}
 use Rattle.base.proofs.Cases.{by_bool}
 use Rattle.frame.specs.Layout.{fhdr_length_of, has_port_of, fport}
-use Rattle.frame.specs.Reading.{port_of_of, payload_of, data_of, read_of}
+use Rattle.frame.specs.Reading.{port_of, payload_of, data_of, read_of}
 use Rattle.frame.specs.ReadingNumbers.{on_data}
 use Rattle.frame.specs.Conditions.{IsData}
 use Rattle.frame.specs.declared.refusals.Refusal.{Refusal}
@@ -29,7 +29,7 @@ abbrev Spans : ℕ → ℕ → FrmPayload → Type 0
 Spans n m p = (commands_from p m ≤ commands_to p m) × (commands_to p m ≤ n)
 
 payload_spans : (f : List ℕ) → Spans (length f) (length f - 4) (payload_of f)
-unfolding payload_of port_of_of
+unfolding payload_of port_of
 payload_spans f =
     let upto : length f - 4 ≤ length f = omega arith in
     let none : length f - 4 ≤ length f - 4 = omega arith in

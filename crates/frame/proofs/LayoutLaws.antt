@@ -10,8 +10,8 @@ use lib.Seq.{drop-drop, take_all}
 use Rattle.base.specs.Bytes.{at}
 use Rattle.base.specs.Storing.{run_at}
 use Rattle.base.proofs.StoringLaws.{run_inside}
-use Rattle.frame.specs.Layout.{fhdr_length_of, fport, payload_start_of, payload_end_of, header_end_of, header, payload, mic_of_of}
-use Rattle.frame.specs.Reading.{port_of_of, payload_of, data_of, read_join_request_of, read_join_accept_of, read_data_of, read_type_of, read_of}
+use Rattle.frame.specs.Layout.{fhdr_length_of, fport, payload_start_of, payload_end_of, header_end_of, header, payload, mic_of}
+use Rattle.frame.specs.Reading.{port_of, payload_of, data_of, read_join_request_of, read_join_accept_of, read_data_of, read_type_of, read_of}
 use Rattle.frame.specs.Conditions.{IsData}
 
 -- ---- places
@@ -48,7 +48,7 @@ length-payload f =
     length-take (payload_end_of f - header_end_of f) (drop (header_end_of f) f) ∙ omega (arith, length-drop (header_end_of f) f)
 
 -- header, payload and MIC are the frame
-pub parts : (f : List ℕ) → header f ++ (payload f ++ mic_of_of f) ≡ f
+pub parts : (f : List ℕ) → header f ++ (payload f ++ mic_of f) ≡ f
 parts f =
     let e : header_end_of f + (payload_end_of f - header_end_of f) ≡ length f - 4 = omega arith in
     ap (λ (l : List ℕ). header f ++ (payload f ++ l))
@@ -57,7 +57,7 @@ parts f =
     ∙ take-append-drop (header_end_of f) f
 
 -- the MIC is the run of four bytes at the end
-pub mic_run : (f : List ℕ) → 4 ≤ length f → run_at 4 f (length f - 4) ≡ mic_of_of f
+pub mic_run : (f : List ℕ) → 4 ≤ length f → run_at 4 f (length f - 4) ≡ mic_of f
 mic_run f h =
     run_inside 4 f (length f - 4) (omega arith)
     ∙ take_all 4 (drop (length f - 4) f) (omega (arith, length-drop (length f - 4) f))
@@ -82,7 +82,7 @@ module _ (f g : List ℕ) (long : length f ≡ length g) (same : (i : ℕ) → i
 
   -- two frames of one length that agree up to the payload have the same fields
   pub data_same : data_of f ≡ data_of g
-  unfolding data_of port_of_of payload_of
+  unfolding data_of port_of payload_of
   data_same = cc (long, same_0, same_5, same_6, same_7, same_port)
 
   -- and read the same

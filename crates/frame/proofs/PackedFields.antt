@@ -12,7 +12,7 @@ use lib.Pow.{high, low, shr-shr}
 use Rattle.base.specs.Bytes.{pick, AreBytes}
 use Rattle.base.proofs.Cases.{by_order}
 use Rattle.frame.specs.Layout.{mtype, fctrl, fcnt, fhdr_length_of, header_end_of}
-use Rattle.frame.specs.Reading.{port_of_of, payload_of, data_of, read_of}
+use Rattle.frame.specs.Reading.{port_of, payload_of, data_of, read_of}
 use Rattle.frame.specs.ReadingNumbers.{port_given_of, port_number_of, payload_kind_of, number_of}
 use Rattle.frame.specs.Conditions.{IsData}
 use Rattle.frame.specs.PackedReading.{Bits, packed, nth, bit_at, Fit, payload_at, bits_of_data, bits_of, packed_of}
@@ -47,7 +47,7 @@ kind_fits (PlainData a b) = omega arith
 kind_fits (MacCommands a b) = omega arith
 
 module _ (f : List ℕ) (b : AreBytes f) where
-  port_fits : port_number_of (port_of_of f) < 256
+  port_fits : port_number_of (port_of f) < 256
   port_fits =
       by_order (fhdr_length_of f + 6) (length f) (λ h. rw (steps.port_there f h) (b (1 + fhdr_length_of f)))
       (λ h. rw (steps.port_absent f h) (omega arith))
@@ -59,7 +59,7 @@ module _ (f : List ℕ) (b : AreBytes f) where
       let six = b 6 in
       let seven = b 7 in
       let e : payload_at (length f - 4) (payload_of f) ≡ header_end_of f = start f h.fits in
-      (omega arith, (omega arith, (bit-fits (port_given_of (port_of_of f)), (kind_fits (payload_of f), (omega arith, (port_fits, (omega arith, (omega arith, (omega arith, (omega arith, tt))))))))))
+      (omega arith, (omega arith, (bit-fits (port_given_of (port_of f)), (kind_fits (payload_of f), (omega arith, (port_fits, (omega arith, (omega arith, (omega arith, (omega arith, tt))))))))))
 
   reading_fits : (r : Reading) → Says f r → Fit (bits_of r)
   reading_fits JoinRequest s =
@@ -97,9 +97,9 @@ module _ (f : List ℕ) (b : AreBytes f) where
 pub record Back (f : List ℕ) (r : ℕ) : Type 0 where
   pub number : r % 2 ^ 8 ≡ 0
   pub type : r / 2 ^ 8 % 2 ^ 3 ≡ mtype f
-  pub given : r / 2 ^ 11 % 2 ≡ pick (port_given_of (port_of_of f)) 1 0
+  pub given : r / 2 ^ 11 % 2 ≡ pick (port_given_of (port_of f)) 1 0
   pub kind : r / 2 ^ 12 % 2 ^ 2 ≡ payload_kind_of (payload_of f)
-  pub port : r / 2 ^ 16 % 2 ^ 8 ≡ port_number_of (port_of_of f)
+  pub port : r / 2 ^ 16 % 2 ^ 8 ≡ port_number_of (port_of f)
   pub payload : r / 2 ^ 24 % 2 ^ 8 ≡ header_end_of f
   pub mic : r / 2 ^ 32 % 2 ^ 8 ≡ length f - 4
   pub control : r / 2 ^ 40 % 2 ^ 8 ≡ fctrl f

@@ -9,7 +9,7 @@ use lib.ListN.{length}
 use borrow.Author.Tests.{lt-ltb, le-ltb, le-leb, lt-leb, eq-eqb, ne_eqb}
 use Rattle.frame.specs.Faults as fault
 use Rattle.frame.specs.Layout.{mtype, major, fhdr_length_of, fport, payload_start_of, payload_end_of}
-use Rattle.frame.specs.Reading.{refuse, port_of_of, held_by_of, payload_of, data_of, read_join_request_of, read_join_accept_of, read_data_of, read_type_of, read_of}
+use Rattle.frame.specs.Reading.{refuse, port_of, held_by_of, payload_of, data_of, read_join_request_of, read_join_accept_of, read_data_of, read_type_of, read_of}
 use Rattle.frame.specs.declared.parser.FPort.TheVariants.{Absent, Port}
 use Rattle.frame.specs.declared.parser.FrmPayload.TheVariants.{Nothing, Data as PlainData, MacCommands}
 use Rattle.frame.specs.declared.parser.Reading.TheVariants.{JoinRequest, JoinAccept, Data}
@@ -17,12 +17,12 @@ use Rattle.frame.specs.declared.parser.Reading.TheVariants.{JoinRequest, JoinAcc
 module _ (f : List ℕ) where
   -- ---- the port
 
-  pub port_there : fhdr_length_of f + 6 ≤ length f → port_of_of f ≡ Port (fport f)
-  unfolding port_of_of
+  pub port_there : fhdr_length_of f + 6 ≤ length f → port_of f ≡ Port (fport f)
+  unfolding port_of
   port_there h = simp (le-leb _ _ h)
 
-  pub port_absent : length f < fhdr_length_of f + 6 → port_of_of f ≡ Absent
-  unfolding port_of_of
+  pub port_absent : length f < fhdr_length_of f + 6 → port_of f ≡ Absent
+  unfolding port_of
   port_absent h = simp (lt-leb _ _ h)
 
   -- ---- the payload

@@ -61,8 +61,8 @@ abbrev pub payload : List ℕ → List ℕ
 payload f = part (header_end_of f) (payload_end_of f - header_end_of f) f
 
 -- 4.4 MIC: the last four bytes
-abbrev pub mic_of_of : List ℕ → List ℕ
-mic_of_of f = drop (length f - 4) f
+abbrev pub mic_of : List ℕ → List ℕ
+mic_of f = drop (length f - 4) f
 
 -- ---- 6.2.4 join-request: where each field begins, and the field in frame order
 

@@ -4,7 +4,7 @@
 use Rattle.std.specs.Prelude.{List, [], ◌∷◌, ℕ, zero, suc, ◌+◌, ◌-◌, ◌*◌, ◌%◌, ◌^◌, ◌<◌}
 use Rattle.base.specs.Bytes.{pick}
 use Rattle.frame.specs.Layout.{fhdr_length_of, header_end_of}
-use Rattle.frame.specs.Reading.{port_of_of, payload_of}
+use Rattle.frame.specs.Reading.{port_of, payload_of}
 use Rattle.frame.specs.ReadingNumbers.{port_given_of, port_number_of, payload_kind_of}
 use Rattle.frame.specs.declared.parser.FrmPayload.{FrmPayload}
 use Rattle.frame.specs.declared.parser.FrmPayload.TheVariants.{Nothing, Data as PlainData, MacCommands}
@@ -90,5 +90,5 @@ packed_of r = packed (bits_of r)
 -- bytes lie between FOpts and payload
 unfoldable pub port_bits_of : List ℕ → ℕ
 port_bits_of f =
-    pick (port_given_of (port_of_of f)) 1 0 * 2048 + payload_kind_of (payload_of f) * 4096 + port_number_of (port_of_of f) * 65536
+    pick (port_given_of (port_of f)) 1 0 * 2048 + payload_kind_of (payload_of f) * 4096 + port_number_of (port_of f) * 65536
     + (header_end_of f - (1 + fhdr_length_of f)) * 16777216

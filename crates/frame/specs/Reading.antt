@@ -17,8 +17,8 @@ use Rattle.frame.specs.declared.parser.Reading.TheVariants.{JoinRequest, JoinAcc
 abbrev pub refuse : Fault → List ℕ → Reading
 refuse x f = Refused (fault_refusal x f)
 
-unfoldable pub port_of_of : List ℕ → FPort
-port_of_of f = pick (has_port_of f) (Port (fport f)) Absent
+unfoldable pub port_of : List ℕ → FPort
+port_of f = pick (has_port_of f) (Port (fport f)) Absent
 
 -- 4.3.2, 4.3.3 what a port says of the bytes from start to end behind it, of which there may be none: commands on port 0, data
 -- on another; nothing without a port
@@ -27,7 +27,7 @@ held_by_of Absent start end = Nothing
 held_by_of (Port n) start end = pick (eqb n 0) (MacCommands start end) (PlainData start end)
 
 unfoldable pub payload_of : List ℕ → FrmPayload
-payload_of f = held_by_of (port_of_of f) (payload_start_of f) (payload_end_of f)
+payload_of f = held_by_of (port_of f) (payload_start_of f) (payload_end_of f)
 
 unfoldable pub data_of : List ℕ → DataFrame
 data_of f =
@@ -36,7 +36,7 @@ data_of f =
       fctrl = fctrl f;
       fcnt = fcnt f;
       fopts_end = 1 + fhdr_length_of f;
-      port = port_of_of f;
+      port = port_of f;
       payload = payload_of f;
       mic = length f - 4;
     }

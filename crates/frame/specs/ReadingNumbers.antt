@@ -94,11 +94,11 @@ data_values_of d =
       mic = d.mic;
     }
 
-abbrev pub values_of_of : Reading → Values
-values_of_of JoinRequest = plain_values_of 1 0 0 0
-values_of_of (JoinAccept n) = plain_values_of 2 0 0 n
-values_of_of (Data d) = data_values_of d
-values_of_of (Refused r) = plain_values_of 0 r.number r.place 0
+abbrev pub values_of : Reading → Values
+values_of JoinRequest = plain_values_of 1 0 0 0
+values_of (JoinAccept n) = plain_values_of 2 0 0 n
+values_of (Data d) = data_values_of d
+values_of (Refused r) = plain_values_of 0 r.number r.place 0
 
 -- ---- for a call that needs a frame of one type
 

@@ -2,7 +2,7 @@
 // record.
 ghost use Rattle.std.specs.Prelude.{◌≡◌};
 ghost use Rattle.frame.specs.Refusals.{refused};
-ghost use Rattle.frame.specs.ReadingNumbers.{port_given_of, port_number_of, payload_kind_of, payload_from_of, payload_to_of, other_refusal_of, plain_values_of, data_values_of, values_of_of};
+ghost use Rattle.frame.specs.ReadingNumbers.{port_given_of, port_number_of, payload_kind_of, payload_from_of, payload_to_of, other_refusal_of, plain_values_of, data_values_of, values_of};
 
 use crate::parser::{DataFrame, FPort, FrmPayload, Reading};
 use crate::refusals::{INVALID_DATA, Refusal};
@@ -148,7 +148,7 @@ fn data_values(d: DataFrame) -> Values
 
 // All the numbers of a reading.
 pub fn values_of(reading: Reading) -> Values
-    ensures { result ≡ values_of_of reading }
+    ensures { result ≡ values_of reading }
 {
     match reading {
         Reading::JoinRequest => plain_values(1, 0, 0, 0),

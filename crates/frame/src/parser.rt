@@ -2,7 +2,7 @@
 ghost use Rattle.std.specs.Prelude.{◌≡◌, ◌+◌, ◌*◌, ◌%◌, ◌≤◌, length};
 ghost use Rattle.frame.specs.Layout.{fhdr_length_of, has_port_of};
 ghost use Rattle.frame.specs.Refusals.{refusal};
-ghost use Rattle.frame.specs.Reading.{port_of_of, held_by_of, payload_of, read_join_request_of, read_join_accept_of, read_data_of, read_type_of, read_of};
+ghost use Rattle.frame.specs.Reading.{port_of, held_by_of, payload_of, read_join_request_of, read_join_accept_of, read_data_of, read_type_of, read_of};
 ghost use Rattle.frame.specs.declared.parser.FPort.TheVariants.{Port};
 ghost use Rattle.frame.specs.declared.parser.Reading.TheVariants.{Refused};
 
@@ -80,7 +80,7 @@ pub(crate) fn has_port(frame: &[u8], h: usize) -> bool
 fn read_port(frame: &[u8], h: usize) -> FPort
     requires h_value { h ≡ fhdr_length_of frame.now }
     requires h_in_bounds { 5 + h ≤ length frame.now }
-    ensures { result ≡ port_of_of frame.now }
+    ensures { result ≡ port_of frame.now }
 {
     if has_port(frame, h) {
         return FPort::Port(frame[1 + h]);

@@ -4,7 +4,7 @@ ghost use Rattle.std.specs.Prelude.{◌≡◌, ◌/◌, ◌%◌, ◌<◌, eqb};
 ghost use Rattle.frame_bits.specs.Fctrl.{fctrl_of, adr_of, adr_ack_req_of, ack_of, f_pending_of, f_opts_len_of, with_bit_of, uplink_of, confirmed_of, nwk_id_of};
 
 // FCtrl of a data frame (4.3.1): its byte, and whether the frame goes up.
-#[derive(Drop)]
+#[derive(Clone, Copy)]
 pub struct FCtrl(pub u8, pub bool);
 
 // Whether a byte has the bit of value b.

@@ -8,7 +8,7 @@ use Rattle.mac_commands.specs.declared.maccommands.Step.TheVariants.{Found, End,
 use Rattle.mac_commands.specs.declared.maccommandcreator.Written.{Written}
 use Rattle.mac_commands.specs.declared.maccommandcreator.Written.TheVariants.{Upto}
 use Rattle.mac_commands.specs.declared.maccommandcreator.Written.TheVariants.{Refused as Unwritten}
-use Rattle.command_numbers.specs.Numbers.{numbers_of_of}
+use Rattle.command_numbers.specs.Numbers.{numbers_of}
 use Rattle.frame_c.specs.CAnswers.{refusal_answer_of}
 
 abbrev pub step_answer : Step → ℕ
@@ -18,7 +18,7 @@ step_answer (Refused r) = refusal_answer_of r
 
 -- the six numbers of a command that was found; what was there where none was
 abbrev pub step_into : Step → List ℤ → List ℤ
-step_into (Found c next) was = numbers_of_of c
+step_into (Found c next) was = numbers_of c
 step_into End was = was
 step_into (Refused r) was = was
 

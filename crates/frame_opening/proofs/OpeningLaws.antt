@@ -11,7 +11,7 @@ use lib.ListN.{length, take}
 use Rattle.base.specs.Bytes.{pick, part}
 use Rattle.base.specs.Storing.{run_at}
 use Rattle.frame_security.specs.Mic.{same_bytes}
-use Rattle.frame.specs.Layout.{fcnt, fhdr_length_of, header_end_of, header, payload, payload_end_of, mic_of_of}
+use Rattle.frame.specs.Layout.{fcnt, fhdr_length_of, header_end_of, header, payload, payload_end_of, mic_of}
 use Rattle.frame.specs.ReadingNumbers.{other_refusal_of, on_request, on_accept, on_data}
 use Rattle.frame_opening.specs.FrameOpening.{decrypted}
 use Rattle.frame.specs.Reading.{read_of, data_of}
@@ -75,7 +75,7 @@ module _ (f : List ℕ) where
 
 -- the four bytes that are compared are the frame's MIC
 pub found_right : (f right : List ℕ) → 4 ≤ length f → (found : List ℕ) → found ≡ run_at 4 f (length f - 4)
-    → same_bytes (mic_of_of f) right ≡ same_bytes found right
+    → same_bytes (mic_of f) right ≡ same_bytes found right
 found_right f right h found e = ap (λ (l : List ℕ). same_bytes l right) (sym (e ∙ mic_run f h))
 
 -- the part that is lent for the MIC is what it covers

@@ -4,7 +4,7 @@
 use Rattle.std.specs.Prelude.{Bool, true, false, List, ℕ}
 use Rattle.base.specs.Bytes.{pick}
 use Rattle.frame_security.specs.Mic.{same_bytes}
-use Rattle.frame.specs.Layout.{fcnt, header_end_of, payload_end_of, mic_of_of}
+use Rattle.frame.specs.Layout.{fcnt, header_end_of, payload_end_of, mic_of}
 use Rattle.frame.specs.ReadingNumbers.{on_request, on_accept, on_data}
 use Rattle.frame.specs.Refusals.{refused, not_refused}
 use Rattle.frame.specs.declared.refusals.Refusal.{Refusal}
@@ -20,11 +20,11 @@ use Rattle.frame_opening.specs.declared.payload.Opening.TheVariants.{Opened, Ref
 
 -- 6.2.4, 6.2.5 a join message under AppKey, a join-accept given clear
 unfoldable pub join_passes : List ℕ → List ℕ → Bool
-join_passes key f = same_bytes (mic_of_of f) (join_mic key (covered f))
+join_passes key f = same_bytes (mic_of f) (join_mic key (covered f))
 
 -- 4.4 a data message under NwkSKey and the whole 32-bit counter
 unfoldable pub data_passes : List ℕ → ℕ → List ℕ → Bool
-data_passes key counter f = same_bytes (mic_of_of f) (data_mic_of key (covered f) counter)
+data_passes key counter f = same_bytes (mic_of f) (data_mic_of key (covered f) counter)
 
 abbrev pub answered : Bool → MicTest
 answered passes = pick passes Passes Fails

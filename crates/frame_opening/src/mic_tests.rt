@@ -1,6 +1,6 @@
 // Tests of a frame's MIC (of the cryptographic half of parser.rs of the crate).
 ghost use Rattle.std.specs.Prelude.{◌≡◌, ◌≤◌, length};
-ghost use Rattle.frame.specs.Layout.{mic_of_of};
+ghost use Rattle.frame.specs.Layout.{mic_of};
 ghost use Rattle.frame.specs.ReadingNumbers.{other_refusal_of};
 ghost use Rattle.frame_security.specs.Mic.{same_bytes};
 ghost use Rattle.frame_opening.specs.FrameOpening.{join_passes, data_passes, answered, join_request_test, join_accept_test, data_test_of};
@@ -24,7 +24,7 @@ pub enum MicTest {
 // Whether the last four bytes are the MIC that is right.
 fn answer(frame: &[u8], right: [u8; 4]) -> MicTest
     requires { 4 ≤ length frame.now }
-    ensures { result ≡ answered (same_bytes (mic_of_of frame.now) right) }
+    ensures { result ≡ answered (same_bytes (mic_of frame.now) right) }
 {
     let found = four_at(frame, frame.len() - MIC_LEN);
     if same_mic(found, right) {

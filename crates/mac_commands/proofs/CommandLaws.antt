@@ -15,7 +15,7 @@ use Rattle.base.proofs.Cases.{by_bool, by_order}
 use Rattle.base.proofs.Tab.{length-tab, at-tab, same_at}
 use Rattle.base.proofs.Tested.{agree}
 use Rattle.mac_commands.specs.Layout.{fits, field_at, fields_of, number_of, count_in_row, width_at, downs, ups, row, row_of}
-use Rattle.mac_commands.specs.Commands.{raw_of_of, commands, command_of_of, fields_as, row_at, values_of_of, up_of, id_of, fits_all}
+use Rattle.mac_commands.specs.Commands.{raw_of, commands, command_of, fields_as, row_at, values_of, up_of, id_of, fits_all}
 use Rattle.mac_commands.specs.declared.maccommands.Command.{Command}
 use Rattle.mac_commands.specs.declared.maccommands.Command.TheVariants.{LinkCheckAns, LinkADRReq, DutyCycleReq, RXParamSetupReq, DevStatusReq, NewChannelReq, RXTimingSetupReq, TxParamSetupReq, DlChannelReq, LinkCheckReq, LinkADRAns, DutyCycleAns, RXParamSetupAns, DevStatusAns, NewChannelAns, RXTimingSetupAns, TxParamSetupAns, DlChannelAns}
 use Rattle.mac_commands.proofs.LayoutLaws.{named, named_below, each_fits, field_number, lacking}
@@ -26,9 +26,9 @@ use Rattle.mac_commands.proofs.TableLaws.{Every, every, row_named, row_within}
 
 pub record Shaped (c : Command) : Type 0 where
   pub known : row_at c < 18
-  pub long : length (values_of_of c) ≡ 5
-  pub lacks : drop (count_in_row (row (row_at c))) (values_of_of c) ≡ zeros (5 - count_in_row (row (row_at c)))
-  pub back : fits_all c ≡ true → command_of_of (row_at c) (values_of_of c) ≡ c
+  pub long : length (values_of c) ≡ 5
+  pub lacks : drop (count_in_row (row (row_at c))) (values_of c) ≡ zeros (5 - count_in_row (row (row_at c)))
+  pub back : fits_all c ≡ true → command_of (row_at c) (values_of c) ≡ c
 
 -- the margin's six bits where they fit
 six : (xs : List ℕ) → fits (row 13) xs ≡ true → at xs 1 < 64
@@ -36,7 +36,7 @@ unfolding row downs ups named width_at
 six xs h = each_fits (row 13) xs 1 h refl
 
 pub shaped : (c : Command) → Shaped c
-unfolding fields_as commands command_of_of row downs ups count_in_row
+unfolding fields_as commands command_of row downs ups count_in_row
 shaped (LinkCheckAns a b) = record { known = omega arith; long = refl; lacks = refl; back = λ h. refl }
 shaped (LinkADRReq a b c d e) = record { known = omega arith; long = refl; lacks = refl; back = λ h. refl }
 shaped (DutyCycleReq a) = record { known = omega arith; long = refl; lacks = refl; back = λ h. refl }
@@ -55,7 +55,7 @@ shaped (DevStatusAns a b) =
       known = omega arith;
       long = refl;
       lacks = refl;
-      back = λ h. ap (λ z. DevStatusAns a z) (margin_raw b (six (a ∷ raw_of_of b ∷ 0 ∷ 0 ∷ 0 ∷ []) h));
+      back = λ h. ap (λ z. DevStatusAns a z) (margin_raw b (six (a ∷ raw_of b ∷ 0 ∷ 0 ∷ 0 ∷ []) h));
     }
 shaped (NewChannelAns a b) = record { known = omega arith; long = refl; lacks = refl; back = λ h. refl }
 shaped RXTimingSetupAns = record { known = omega arith; long = refl; lacks = refl; back = λ h. refl }
@@ -64,19 +64,19 @@ shaped (DlChannelAns a b) = record { known = omega arith; long = refl; lacks = r
 
 -- ---- the row and the values of the command that a row gives
 
-pub row_back : (r : ℕ) (xs : List ℕ) → r < 18 → row_at (command_of_of r xs) ≡ r
-unfolding fields_as commands command_of_of
-row_back r xs h = agree 18 (λ r. row_at (command_of_of r xs)) (λ r. r) tt r h
+pub row_back : (r : ℕ) (xs : List ℕ) → r < 18 → row_at (command_of r xs) ≡ r
+unfolding fields_as commands command_of
+row_back r xs h = agree 18 (λ r. row_at (command_of r xs)) (λ r. r) tt r h
 
 abbrev Kept : ℕ → ℕ → ℕ → Type 0
-Kept v r k = at (values_of_of (command_of_of r (fields_of (row r) v))) k ≡ field_at (row r) v k
+Kept v r k = at (values_of (command_of r (fields_of (row r) v))) k ≡ field_at (row r) v k
 
 margin_kept : (v : ℕ) → Every (Kept v 13) 2
-unfolding fields_as commands command_of_of row downs ups width_at
+unfolding fields_as commands command_of row downs ups width_at
 margin_kept v = ((tt, refl), raw_margin (field_at (row 13) v 1) (mod-lt _ (pow_pos 6)))
 
 values_back : (v r k : ℕ) → r < 18 → k < count_in_row (row r) → Kept v r k
-unfolding fields_as commands command_of_of row downs ups count_in_row
+unfolding fields_as commands command_of row downs ups count_in_row
 values_back v r k hr hk =
     every (Kept v r) (count_in_row (row r))
     (every (λ r. Every (Kept v r) (count_in_row (row r))) 18
@@ -90,11 +90,11 @@ zeros-at zero i = refl
 zeros-at (suc n) zero = refl
 zeros-at (suc n) (suc i) = zeros-at n i
 
-past_last : (c : Command) (k : ℕ) → count_in_row (row (row_at c)) ≤ k → at (values_of_of c) k ≡ 0
+past_last : (c : Command) (k : ℕ) → count_in_row (row (row_at c)) ≤ k → at (values_of c) k ≡ 0
 past_last c k h =
     let n : ℕ = count_in_row (row (row_at c)) in
-    ap (at (values_of_of c)) (omega arith)
-    ∙ sym (get_or-drop (count_in_row (row (row_at c))) (values_of_of c) (k - count_in_row (row (row_at c))) 0)
+    ap (at (values_of c)) (omega arith)
+    ∙ sym (get_or-drop (count_in_row (row (row_at c))) (values_of c) (k - count_in_row (row (row_at c))) 0)
     ∙ ap (λ (s : List ℕ). at s (k - count_in_row (row (row_at c)))) (shaped c).lacks
     ∙ zeros-at (5 - count_in_row (row (row_at c))) (k - count_in_row (row (row_at c)))
 
@@ -108,27 +108,27 @@ unnamed r k hr t =
     absurd (omega arith))
 
 pub fields_back : (c : Command) → fits_all c ≡ true
-    → fields_of (row (row_at c)) (number_of (row (row_at c)) (values_of_of c)) ≡ values_of_of c
+    → fields_of (row (row_at c)) (number_of (row (row_at c)) (values_of c)) ≡ values_of c
 fields_back c h =
-    let v : ℕ = number_of (row (row_at c)) (values_of_of c) in
-    same_at 5 (fields_of (row (row_at c)) v) (values_of_of c) (length-tab 5 (field_at (row (row_at c)) v)) (shaped c).long
+    let v : ℕ = number_of (row (row_at c)) (values_of c) in
+    same_at 5 (fields_of (row (row_at c)) v) (values_of c) (length-tab 5 (field_at (row (row_at c)) v)) (shaped c).long
     (λ k l.
     at-tab 5 (field_at (row (row_at c)) v) k l
-    ∙ by_bool (named (row (row_at c)) k) (λ t. field_number (row (row_at c)) (values_of_of c) k h t)
+    ∙ by_bool (named (row (row_at c)) k) (λ t. field_number (row (row_at c)) (values_of c) k h t)
     (λ t. lacking (row (row_at c)) v k t ∙ sym (past_last c k (unnamed (row_at c) k (shaped c).known t))))
 
 -- ---- the values of the command that a row and a number give are the fields of the number
 
-pub values_read : (r v : ℕ) → r < 18 → values_of_of (command_of_of r (fields_of (row r) v)) ≡ fields_of (row r) v
+pub values_read : (r v : ℕ) → r < 18 → values_of (command_of r (fields_of (row r) v)) ≡ fields_of (row r) v
 values_read r v h =
-    let its : row_at (command_of_of r (fields_of (row r) v)) ≡ r = row_back r (fields_of (row r) v) h in
-    same_at 5 (values_of_of (command_of_of r (fields_of (row r) v))) (fields_of (row r) v)
-    (shaped (command_of_of r (fields_of (row r) v))).long (length-tab 5 (field_at (row r) v))
+    let its : row_at (command_of r (fields_of (row r) v)) ≡ r = row_back r (fields_of (row r) v) h in
+    same_at 5 (values_of (command_of r (fields_of (row r) v))) (fields_of (row r) v)
+    (shaped (command_of r (fields_of (row r) v))).long (length-tab 5 (field_at (row r) v))
     (λ k l.
     by_bool (named (row r) k)
     (λ t. values_back v r k h (named_below (row r) (count_in_row (row r)) k (row_within r h) t))
     (λ t.
-    past_last (command_of_of r (fields_of (row r) v)) k
+    past_last (command_of r (fields_of (row r) v)) k
     (subst (λ (n : ℕ). count_in_row (row n) ≤ k) (sym its) (unnamed r k h t))
     ∙ sym (lacking (row r) v k t))
     ∙ sym (at-tab 5 (field_at (row r) v) k l))

@@ -16,7 +16,7 @@ use Rattle.base.proofs.Tab.{at-tab}
 use Rattle.frame.specs.declared.refusals.Refusal.{Refusal}
 use Rattle.frame.specs.Refusals.{refusal}
 use Rattle.mac_commands.specs.Layout.{fits, field_at, fields_of, number_of, count_in_row, Clear, row, row_of, known, size_of, low_first, bytes_of}
-use Rattle.mac_commands.specs.Commands.{command_of_of, step_at, row_at, values_of_of, fits_all, up_of, id_of, row_bytes, bytes_as}
+use Rattle.mac_commands.specs.Commands.{command_of, step_at, row_at, values_of, fits_all, up_of, id_of, row_bytes, bytes_as}
 use Rattle.mac_commands.specs.declared.maccommands.Command.{Command}
 use Rattle.mac_commands.specs.declared.maccommands.Step.{Step}
 use Rattle.mac_commands.specs.declared.maccommands.Step.TheVariants.{Found, End, Refused}
@@ -30,22 +30,22 @@ use Rattle.mac_commands.proofs.WriteLaws.{row_long}
 
 -- the number of a command is that of its bytes
 number_of_bytes : (c : Command) → fits_all c ≡ true
-    → low_first (bytes_of (size_of (row_at c)) (number_of (row (row_at c)) (values_of_of c))) ≡ number_of (row (row_at c)) (values_of_of c)
+    → low_first (bytes_of (size_of (row_at c)) (number_of (row (row_at c)) (values_of c))) ≡ number_of (row (row_at c)) (values_of c)
 number_of_bytes c h =
-    low_bytes (size_of (row_at c)) (number_of (row (row_at c)) (values_of_of c))
-    (subst (λ (n : ℕ). number_of (row (row_at c)) (values_of_of c) < 2 ^ n) (row_whole (row_at c) (shaped c).known)
-    (number-below (row (row_at c)) (values_of_of c) h))
+    low_bytes (size_of (row_at c)) (number_of (row (row_at c)) (values_of c))
+    (subst (λ (n : ℕ). number_of (row (row_at c)) (values_of c) < 2 ^ n) (row_whole (row_at c) (shaped c).known)
+    (number-below (row (row_at c)) (values_of c) h))
 
 -- a command takes the identifier and the bytes of its row
 pub bytes_count : (c : Command) → length (bytes_as c) ≡ 1 + size_of (row_at c)
 unfolding bytes_as
-bytes_count c = row_long (row_at c) (number_of (row (row_at c)) (values_of_of c))
+bytes_count c = row_long (row_at c) (number_of (row (row_at c)) (values_of c))
 
 pub reads_back : (c : Command) (s t : List ℕ) (i : ℕ) → fits_all c ≡ true → drop i s ≡ bytes_as c ++ t
     → step_at (up_of (row_at c)) s i ≡ Found c (i + length (bytes_as c))
 unfolding bytes_as row_bytes
 reads_back c s t i h e =
-    let v : ℕ = number_of (row (row_at c)) (values_of_of c) in
+    let v : ℕ = number_of (row (row_at c)) (values_of c) in
     let long : length s - i ≡ length (bytes_as c) + length t =
     sym (length-drop i s) ∙ ap length e ∙ length-append (bytes_as c) t in
     let first : at s i ≡ id_of (row_at c) =
@@ -55,7 +55,7 @@ reads_back c s t i h e =
     ∙ take_at (bytes_of (size_of (row_at c)) v) t (size_of (row_at c)) (bytes_long (size_of (row_at c)) v) in
     let its : row_of (up_of (row_at c)) (at s i) ≡ row_at c =
     ap (row_of (up_of (row_at c))) first ∙ row_of_lem (row_at c) (shaped c).known in
-    let same : fields_of (row (row_at c)) (low_first (part (i + 1) (size_of (row_at c)) s)) ≡ values_of_of c =
+    let same : fields_of (row (row_at c)) (low_first (part (i + 1) (size_of (row_at c)) s)) ≡ values_of c =
     ap (λ (l : List ℕ). fields_of (row (row_at c)) (low_first l)) rest
     ∙ ap (fields_of (row (row_at c))) (number_of_bytes c h)
     ∙ fields_back c h in
@@ -64,9 +64,9 @@ reads_back c s t i h e =
     (is_known (at s i) (omega (arith, id_from (row_at c))) (omega (arith, id_upto (row_at c))))
     (omega (arith, bytes_count c, ap size_of its))
     ∙ ap
-    (λ (r : ℕ). Found (command_of_of r (fields_of (row r) (low_first (part (i + 1) (size_of r) s)))) (i + 1 + size_of r))
+    (λ (r : ℕ). Found (command_of r (fields_of (row r) (low_first (part (i + 1) (size_of r) s)))) (i + 1 + size_of r))
     its
-    ∙ ap₂ Found (ap (command_of_of (row_at c)) same ∙ (shaped c).back h) next
+    ∙ ap₂ Found (ap (command_of (row_at c)) same ∙ (shaped c).back h) next
 
 -- ---- read, then written
 
@@ -78,7 +78,7 @@ number_behind up s i = low_first (part (i + 1) (size_of (row_of up (at s i))) s)
 pub record ReadAs (up : Bool) (s : List ℕ) (i : ℕ) (c : Command) (n : ℕ) : Type 0 where
   pub in_family : known (at s i) ≡ true
   pub room : i + 1 + size_of (row_of up (at s i)) ≤ length s
-  pub command : c ≡ command_of_of (row_of up (at s i)) (fields_of (row (row_of up (at s i))) (number_behind up s i))
+  pub command : c ≡ command_of (row_of up (at s i)) (fields_of (row (row_of up (at s i))) (number_behind up s i))
   pub next : n ≡ i + 1 + size_of (row_of up (at s i))
 
 no_end : {A : Type 0} (x : Step) (c : Command) (n : ℕ) → x ≡ Found c n → x ≡ End → A
@@ -100,7 +100,7 @@ read_as up s i c n e =
   where
     facts : known (at s i) ≡ true → i + 1 + size_of (row_of up (at s i)) ≤ length s
         → step_at up s i
-        ≡ Found (command_of_of (row_of up (at s i)) (fields_of (row (row_of up (at s i))) (number_behind up s i)))
+        ≡ Found (command_of (row_of up (at s i)) (fields_of (row (row_of up (at s i))) (number_behind up s i)))
         (i + 1 + size_of (row_of up (at s i)))
         → ReadAs up s i c n
     facts k m f = record { in_family = k; room = m; command = cc; next = cc }
@@ -113,8 +113,8 @@ module _ {up : Bool} {s : List ℕ} {i : ℕ} {c : Command} {n : ℕ} (a : ReadA
   read_row = ap row_at a.command ∙ row_back (row_of up (at s i)) _ below
 
   -- its values are the fields of the number
-  read_values : values_of_of c ≡ fields_of (row (row_of up (at s i))) (number_behind up s i)
-  read_values = ap values_of_of a.command ∙ values_read (row_of up (at s i)) (number_behind up s i) below
+  read_values : values_of c ≡ fields_of (row (row_of up (at s i))) (number_behind up s i)
+  read_values = ap values_of a.command ∙ values_read (row_of up (at s i)) (number_behind up s i) below
 
   -- one statement on lengths, for each direction and identifier: reading skips what writing writes
   pub same_length : n ≡ i + length (bytes_as c)
@@ -133,9 +133,9 @@ module _ {up : Bool} {s : List ℕ} {i : ℕ} {c : Command} {n : ℕ} (a : ReadA
   writes_back b z =
       let long : length (part (i + 1) (size_of (row_of up (at s i))) s) ≡ size_of (row_of up (at s i)) =
       length_part (i + 1) (size_of (row_of up (at s i))) s a.room in
-      ap (λ (r : ℕ). row_bytes r (number_of (row r) (values_of_of c))) read_row
+      ap (λ (r : ℕ). row_bytes r (number_of (row r) (values_of c))) read_row
       ∙ ap (row_bytes (row_of up (at s i)))
-      (number_back (row (row_of up (at s i))) (number_behind up s i) (values_of_of c) (row_distinct (row_of up (at s i)) below)
+      (number_back (row (row_of up (at s i))) (number_behind up s i) (values_of c) (row_distinct (row_of up (at s i)) below)
       (λ k t. ap (λ (x : List ℕ). at x k) read_values ∙ at-tab 5 (field_at (row (row_of up (at s i))) (number_behind up s i)) k (few k t)) z)
       ∙ ap₂ (λ (x : ℕ) (l : List ℕ). x ∷ l)
       (id_of_lem up (at s i) (known_from (at s i) a.in_family) (known_upto (at s i) a.in_family))

@@ -13,7 +13,7 @@ use Rattle.base.proofs.Cases.{by_bool, by_order}
 use Rattle.frame.specs.declared.refusals.Refusal.{Refusal}
 use Rattle.frame.specs.Refusals.{refusal}
 use Rattle.mac_commands.specs.Layout.{fields_of, row, row_of, known, size_of, low_first}
-use Rattle.mac_commands.specs.Commands.{command_of_of, raw_at, raw_step_at, step_of, step_at}
+use Rattle.mac_commands.specs.Commands.{command_of, raw_at, raw_step_at, step_of, step_at}
 use Rattle.mac_commands.specs.declared.maccommands.Step.TheVariants.{Found, End, Refused}
 use Rattle.mac_commands.specs.declared.maccommands.RawStep.{RawStep}
 use Rattle.mac_commands.specs.declared.maccommands.RawStep.TheVariants.{Found as RawFound, End as RawEnd, Refused as RawRefused}
@@ -102,7 +102,7 @@ cut up s i h k l = ap step_of (raw_known up s i h k ∙ raw_cut (row_of up (at s
 pub whole : (up : Bool) (s : List ℕ) (i : ℕ) → i < length s → known (at s i) ≡ true
     → i + 1 + size_of (row_of up (at s i)) ≤ length s
     → step_at up s i
-    ≡ Found (command_of_of (row_of up (at s i)) (fields_of (row (row_of up (at s i))) (low_first (part (i + 1) (size_of (row_of up (at s i))) s))))
+    ≡ Found (command_of (row_of up (at s i)) (fields_of (row (row_of up (at s i))) (low_first (part (i + 1) (size_of (row_of up (at s i))) s))))
     (i + 1 + size_of (row_of up (at s i)))
 unfolding step_at
 whole up s i h k l = ap step_of (raw_known up s i h k ∙ raw_whole (row_of up (at s i)) s i l)

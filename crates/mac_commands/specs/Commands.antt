@@ -21,13 +21,13 @@ use Rattle.mac_commands.specs.declared.maccommandcreator.Written.TheVariants.{Re
 
 -- ---- the margin of DevStatusAns (5.5): six bits in two's complement, -32 to 31
 
-unfoldable pub margin_of_of : ℕ → ℤ
-margin_of_of x = pick (ltb x 32) (pos x) (negsuc (63 - x))
+unfoldable pub margin_of : ℕ → ℤ
+margin_of x = pick (ltb x 32) (pos x) (negsuc (63 - x))
 
 -- back; a number outside is given as 64, which six bits cannot hold
-unfoldable pub raw_of_of : ℤ → ℕ
-raw_of_of (pos m) = pick (ltb m 32) m 64
-raw_of_of (negsuc k) = pick (ltb k 32) (63 - k) 64
+unfoldable pub raw_of : ℤ → ℕ
+raw_of (pos m) = pick (ltb m 32) m 64
+raw_of (negsuc k) = pick (ltb k 32) (63 - k) 64
 
 -- ---- a command by its row and its values
 
@@ -46,15 +46,15 @@ commands xs =
     ∷ LinkADRAns (at xs 0) (at xs 1) (at xs 2)
     ∷ DutyCycleAns
     ∷ RXParamSetupAns (at xs 0) (at xs 1) (at xs 2)
-    ∷ DevStatusAns (at xs 0) (margin_of_of (at xs 1))
+    ∷ DevStatusAns (at xs 0) (margin_of (at xs 1))
     ∷ NewChannelAns (at xs 0) (at xs 1)
     ∷ RXTimingSetupAns
     ∷ TxParamSetupAns
     ∷ DlChannelAns (at xs 0) (at xs 1)
     ∷ []
 
-unfoldable pub command_of_of : ℕ → List ℕ → Command
-command_of_of r xs = get_or (commands xs) r LinkCheckReq
+unfoldable pub command_of : ℕ → List ℕ → Command
+command_of r xs = get_or (commands xs) r LinkCheckReq
 
 unfoldable pub fields_as : Command → Fields
 fields_as (LinkCheckAns margin gateways) = record { row = 0; values = margin ∷ gateways ∷ 0 ∷ 0 ∷ 0 ∷ [] }
@@ -70,7 +70,7 @@ fields_as LinkCheckReq = record { row = 9; values = 0 ∷ 0 ∷ 0 ∷ 0 ∷ 0 �
 fields_as (LinkADRAns power data_rate mask) = record { row = 10; values = power ∷ data_rate ∷ mask ∷ 0 ∷ 0 ∷ [] }
 fields_as DutyCycleAns = record { row = 11; values = 0 ∷ 0 ∷ 0 ∷ 0 ∷ 0 ∷ [] }
 fields_as (RXParamSetupAns rx1_offset rx2_data_rate channel) = record { row = 12; values = rx1_offset ∷ rx2_data_rate ∷ channel ∷ 0 ∷ 0 ∷ [] }
-fields_as (DevStatusAns battery margin) = record { row = 13; values = battery ∷ raw_of_of margin ∷ 0 ∷ 0 ∷ 0 ∷ [] }
+fields_as (DevStatusAns battery margin) = record { row = 13; values = battery ∷ raw_of margin ∷ 0 ∷ 0 ∷ 0 ∷ [] }
 fields_as (NewChannelAns range frequency) = record { row = 14; values = range ∷ frequency ∷ 0 ∷ 0 ∷ 0 ∷ [] }
 fields_as RXTimingSetupAns = record { row = 15; values = 0 ∷ 0 ∷ 0 ∷ 0 ∷ 0 ∷ [] }
 fields_as TxParamSetupAns = record { row = 16; values = 0 ∷ 0 ∷ 0 ∷ 0 ∷ 0 ∷ [] }
@@ -79,8 +79,8 @@ fields_as (DlChannelAns uplink frequency) = record { row = 17; values = uplink �
 abbrev pub row_at : Command → ℕ
 row_at c = (fields_as c).row
 
-abbrev pub values_of_of : Command → List ℕ
-values_of_of c = (fields_as c).values
+abbrev pub values_of : Command → List ℕ
+values_of c = (fields_as c).values
 
 -- the rows from the tenth on go up
 abbrev pub up_of : ℕ → Bool
@@ -105,7 +105,7 @@ raw_step_at up s i =
 
 -- the command of a row and its number
 abbrev pub step_of : RawStep → Step
-step_of (RawFound r v next) = Found (command_of_of r (fields_of (row r) v)) next
+step_of (RawFound r v next) = Found (command_of r (fields_of (row r) v)) next
 step_of RawEnd = End
 step_of (RawRefused e) = Refused e
 
@@ -118,11 +118,11 @@ unfoldable pub row_bytes : ℕ → ℕ → List ℕ
 row_bytes r v = id_of r ∷ bytes_of (size_of r) v
 
 unfoldable pub bytes_as : Command → List ℕ
-bytes_as c = row_bytes (row_at c) (number_of (row (row_at c)) (values_of_of c))
+bytes_as c = row_bytes (row_at c) (number_of (row (row_at c)) (values_of c))
 
 -- every value fits its field
 abbrev pub fits_all : Command → Bool
-fits_all c = fits (row (row_at c)) (values_of_of c)
+fits_all c = fits (row (row_at c)) (values_of c)
 
 -- the number behind the identifier, where the values fit
 unfoldable pub packed_of : ℕ → List ℕ → Packed
@@ -146,10 +146,10 @@ written_in r xs l i = pick (fits (row r) xs) (put_in r (number_of (row r) xs) l 
 
 -- a command
 abbrev pub command_written : Command → ℕ → ℕ → Written
-command_written c n i = written_as (row_at c) (values_of_of c) n i
+command_written c n i = written_as (row_at c) (values_of c) n i
 
 abbrev pub command_in : Command → List ℕ → ℕ → List ℕ
-command_in c l i = written_in (row_at c) (values_of_of c) l i
+command_in c l i = written_in (row_at c) (values_of c) l i
 
 -- values by direction and identifier: 16 where there is no such identifier goes before 18 and 7
 unfoldable pub fields_written : Bool → ℕ → List ℕ → ℕ → ℕ → Written

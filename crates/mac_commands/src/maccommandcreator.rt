@@ -3,7 +3,7 @@ ghost use Rattle.std.specs.Prelude.{◌≡◌, ◌+◌, ◌*◌, ◌^◌, ◌≤
 ghost use Rattle.base.specs.Storing.{Put};
 ghost use Rattle.frame.specs.Refusals.{refused};
 ghost use Rattle.mac_commands.specs.Layout.{row, place_in_row, width_at, bytes_of};
-ghost use Rattle.mac_commands.specs.Commands.{raw_of_of, fields_as, packed_of, put_as, put_in, written_as, written_in, command_written, command_in, fields_written, fields_in};
+ghost use Rattle.mac_commands.specs.Commands.{raw_of, fields_as, packed_of, put_as, put_in, written_as, written_in, command_written, command_in, fields_written, fields_in};
 ghost use Rattle.mac_commands.specs.declared.maccommandcreator.Written.TheVariants.{Refused as Unwritten};
 
 use crate::maccommands::Command;
@@ -34,7 +34,7 @@ pub(crate) enum Packed {
 
 // The margin in six bits; 64, which they cannot hold, for one outside -32 to 31 (5.5).
 pub fn raw_of(m: i64) -> u32
-    ensures { result ≡ raw_of_of m }
+    ensures { result ≡ raw_of m }
 {
     if m < -32 {
         return 64;

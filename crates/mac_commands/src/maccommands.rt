@@ -2,7 +2,7 @@
 ghost use Rattle.std.specs.Prelude.{◌≡◌, true, ◌+◌, ◌≤◌, ◌<◌, length};
 ghost use Rattle.base.specs.Bytes.{part};
 ghost use Rattle.mac_commands.specs.Layout.{row, fits, fields_of, low_first};
-ghost use Rattle.mac_commands.specs.Commands.{margin_of_of, command_of_of, raw_at, raw_step_at, step_at};
+ghost use Rattle.mac_commands.specs.Commands.{margin_of, command_of, raw_at, raw_step_at, step_at};
 
 use crate::table::{FIELDS_MAX, is_known, row_of, size_of};
 use frame::refusals::{COMMAND_CUT_SHORT, Refusal, UNKNOWN_COMMAND};
@@ -95,7 +95,7 @@ pub enum RawStep {
 
 // The margin of its six bits, in two's complement (5.5); -1 for a number that has more of them.
 pub fn margin_of(x: u32) -> i8
-    ensures { result ≡ margin_of_of x }
+    ensures { result ≡ margin_of x }
 {
     if x < 32 {
         return x as i8;
@@ -172,10 +172,10 @@ pub fn values_of(r: usize, v: u64) -> [u32; FIELDS_MAX]
 }
 
 // The command of a row and of the values of its fields.
-#[tactic(auto, unfolding(crate::specs::Commands::commands, crate::specs::Commands::command_of_of, crate::specs::Layout::row, crate::specs::Layout::downs, crate::specs::Layout::ups, crate::specs::Layout::width_at))]
+#[tactic(auto, unfolding(crate::specs::Commands::commands, crate::specs::Commands::command_of, crate::specs::Layout::row, crate::specs::Layout::downs, crate::specs::Layout::ups, crate::specs::Layout::width_at))]
 fn command_of(r: usize, x: [u32; FIELDS_MAX]) -> Command
     requires { fits (row r) x ≡ true }
-    ensures { result ≡ command_of_of r x }
+    ensures { result ≡ command_of r x }
 {
     match r {
         0 => Command::LinkCheckAns {

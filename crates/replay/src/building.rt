@@ -1,7 +1,7 @@
 // Kinds 9 to 11: the builders. Every byte of the output is 0xA5 ahead of the call, and the output is shown whole.
 ghost use Rattle.std.specs.Prelude.{◌≤◌};
 
-use crate::input::{ROOM, after, copy, copy_numbers, eight_at, length_at, number_at, two_at};
+use crate::arguments::{ROOM, after, copy, copy_numbers, eight_at, length_at, number_at, two_at};
 use crate::output::{put, put_all, put_length, put_refusal};
 use base::storing::{block_at, byte_at, four_at, three_at};
 use frame::parser::FPort;
@@ -10,19 +10,21 @@ use frame_build::creator::data_frame::{DataParts, build_data};
 use frame_build::creator::join::{
     JoinAcceptParts, JoinRequestParts, build_join_accept, build_join_request,
 };
+use std::io;
+use std::io::Write;
 
 // A byte's worth of channels.
 const CHANNELS: usize = 256;
 
-fn put_built(built: Built) {
+fn put_built<W: Write>(line: &mut W, built: Built) -> io::Result<()> {
     match built {
         Built::Frame(n) => {
-            put(0);
-            put_length(n);
+            put(line, 0)?;
+            put_length(line, n)
         }
         Built::Refused(refusal) => {
-            put_refusal(refusal);
-            put_length(0);
+            put_refusal(line, refusal)?;
+            put_length(line, 0)
         }
     }
 }
@@ -38,17 +40,17 @@ fn request_parts(record: &[u8]) -> JoinRequestParts {
     }
 }
 
-fn request_into(record: &[u8], out: &mut [u8]) {
+fn request_into<W: Write>(line: &mut W, record: &[u8], out: &mut [u8]) -> io::Result<()> {
     let parts = request_parts(record);
     let key = block_at(record, 19);
-    put_built(build_join_request(parts, key, out));
-    put_all(out);
+    put_built(line, build_join_request(parts, key, out))?;
+    put_all(line, out)
 }
 
-pub fn join_request(record: &[u8]) {
+pub fn join_request<W: Write>(line: &mut W, record: &[u8]) -> io::Result<()> {
     let room = length_at(record, 35);
     let mut out = [0xA5u8; ROOM];
-    request_into(record, &mut out[..room]);
+    request_into(line, record, &mut out[..room])
 }
 
 fn accept_parts(record: &[u8]) -> JoinAcceptParts {
@@ -72,26 +74,37 @@ fn channel_count(n: u8) -> usize
     n as usize
 }
 
-fn accept_into(record: &[u8], channels: &[u32], place: usize, out: &mut [u8]) {
+fn accept_into<W: Write>(
+    line: &mut W,
+    record: &[u8],
+    channels: &[u32],
+    place: usize,
+    out: &mut [u8],
+) -> io::Result<()> {
     let parts = accept_parts(record);
     let key = block_at(record, place);
-    put_built(build_join_accept(parts, channels, key, out));
-    put_all(out);
+    put_built(line, build_join_accept(parts, channels, key, out))?;
+    put_all(line, out)
 }
 
 // Fills the channels from place 15 on; key and room stand behind them, from the place given on.
-fn accept_of(record: &[u8], channels: &mut [u32], place: usize) {
+fn accept_of<W: Write>(
+    line: &mut W,
+    record: &[u8],
+    channels: &mut [u32],
+    place: usize,
+) -> io::Result<()> {
     copy_numbers(channels, record, 15);
     let room = length_at(record, after(place, 16));
     let mut out = [0xA5u8; ROOM];
-    accept_into(record, channels, place, &mut out[..room]);
+    accept_into(line, record, channels, place, &mut out[..room])
 }
 
-pub fn join_accept(record: &[u8]) {
+pub fn join_accept<W: Write>(line: &mut W, record: &[u8]) -> io::Result<()> {
     let n = channel_count(byte_at(record, 14));
     let place = 15 + 4 * n;
     let mut channels = [0u32; CHANNELS];
-    accept_of(record, &mut channels[..n], place);
+    accept_of(line, record, &mut channels[..n], place)
 }
 
 fn port_at(record: &[u8], place: usize) -> FPort {
@@ -116,34 +129,60 @@ fn data_parts(record: &[u8]) -> DataParts {
     }
 }
 
-fn data_into(record: &[u8], commands: &[u8], payload: &[u8], place: usize, out: &mut [u8]) {
+fn data_into<W: Write>(
+    line: &mut W,
+    record: &[u8],
+    commands: &[u8],
+    payload: &[u8],
+    place: usize,
+    out: &mut [u8],
+) -> io::Result<()> {
     let parts = data_parts(record);
     let nwk_skey = block_at(record, place);
     let app_skey = block_at(record, after(place, 16));
-    put_built(build_data(parts, commands, payload, nwk_skey, app_skey, out));
-    put_all(out);
+    put_built(
+        line,
+        build_data(parts, commands, payload, nwk_skey, app_skey, out),
+    )?;
+    put_all(line, out)
 }
 
 // Fills the payload from the place given on; the two keys and the room stand behind it.
-fn data_with_payload(record: &[u8], commands: &[u8], payload: &mut [u8], place: usize) {
+fn data_with_payload<W: Write>(
+    line: &mut W,
+    record: &[u8],
+    commands: &[u8],
+    payload: &mut [u8],
+    place: usize,
+) -> io::Result<()> {
     copy(payload, record, place);
     let keys = after(place, payload.len());
     let room = length_at(record, after(keys, 32));
     let mut out = [0xA5u8; ROOM];
-    data_into(record, commands, payload, keys, &mut out[..room]);
+    data_into(line, record, commands, payload, keys, &mut out[..room])
 }
 
 // Fills the commands; the payload stands behind them.
-fn data_with_commands(record: &[u8], commands: &mut [u8]) {
+fn data_with_commands<W: Write>(
+    line: &mut W,
+    record: &[u8],
+    commands: &mut [u8],
+) -> io::Result<()> {
     copy(commands, record, 16);
     let place = after(16, commands.len());
     let length = length_at(record, place);
     let mut payload = [0u8; ROOM];
-    data_with_payload(record, commands, &mut payload[..length], after(place, 2));
+    data_with_payload(
+        line,
+        record,
+        commands,
+        &mut payload[..length],
+        after(place, 2),
+    )
 }
 
-pub fn data(record: &[u8]) {
+pub fn data<W: Write>(line: &mut W, record: &[u8]) -> io::Result<()> {
     let length = length_at(record, 14);
     let mut commands = [0u8; ROOM];
-    data_with_commands(record, &mut commands[..length]);
+    data_with_commands(line, record, &mut commands[..length])
 }

@@ -1,5 +1,5 @@
 // Kinds 18 to 20: MAC commands, those of a list, one that is written, those of a frame.
-use crate::input::{ROOM, after, copy, copy_numbers, length_at, number_at};
+use crate::arguments::{ROOM, after, copy, copy_numbers, length_at, number_at};
 use crate::output::{
     put, put_all, put_first, put_flag, put_length, put_numbers, put_place, put_refusal,
 };
@@ -7,6 +7,8 @@ use base::storing::byte_at;
 use mac_commands::in_frame::{CommandLists, InFrame, command_lists};
 use mac_commands::maccommandcreator::{Written, fields_of, write_command, write_fields};
 use mac_commands::maccommands::{Command, Step, read_step};
+use std::io;
+use std::io::Write;
 
 // No command has more bytes.
 const COMMAND_MAX: usize = 6;
@@ -32,18 +34,18 @@ fn extended(margin: u32) -> u32 {
     margin
 }
 
-fn put_values(command: Command) {
+fn put_values<W: Write>(line: &mut W, command: Command) -> io::Result<()> {
     let fields = fields_of(command);
     let mut values = fields.values;
     if fields.row == DEV_STATUS_ANS {
         values[1] = extended(values[1]);
     }
-    put_numbers(values);
+    put_numbers(line, values)
 }
 
-fn put_identifier(command: Command) {
+fn put_identifier<W: Write>(line: &mut W, command: Command) -> io::Result<()> {
     let fields = fields_of(command);
-    put_place(2 + fields.row % 9);
+    put_place(line, 2 + fields.row % 9)
 }
 
 // The place past a command that was written at place 0: how many bytes it has.
@@ -55,66 +57,64 @@ fn end_of(written: Written) -> usize {
 }
 
 // The bytes that writing a command gives, behind their number.
-fn put_again(command: Command) {
+fn put_again<W: Write>(line: &mut W, command: Command) -> io::Result<()> {
     let mut out = [0u8; COMMAND_MAX];
     let end = end_of(write_command(command, &mut out, 0));
-    put_place(end);
-    put_first(&out, end);
+    put_place(line, end)?;
+    put_first(line, &out, end)
 }
 
 // A step from a place: the place of the next command, or the same one where there is none.
-fn put_step(uplink: bool, list: &[u8], at: usize) -> usize {
+fn put_step<W: Write>(line: &mut W, uplink: bool, list: &[u8], at: usize) -> io::Result<usize> {
     let step = read_step(uplink, list, at);
     let Step::Found(command, next) = step else {
-        return at;
+        return Ok(at);
     };
-    put_identifier(command);
-    put_length(at);
-    put_length(next);
-    put_values(command);
-    put_again(command);
-    next
+    put_identifier(line, command)?;
+    put_length(line, at)?;
+    put_length(line, next)?;
+    put_values(line, command)?;
+    put_again(line, command)?;
+    Ok(next)
 }
 
-fn put_end(step: Step) {
-    put(0);
+fn put_end<W: Write>(line: &mut W, step: Step) -> io::Result<()> {
+    put(line, 0)?;
     match step {
-        Step::Refused(refusal) => put_refusal(refusal),
-        _ => put(0),
+        Step::Refused(refusal) => put_refusal(line, refusal),
+        _ => put(line, 0),
     }
 }
 
 // All commands from a place on, of which there are no more than bytes, and how the list ends.
-fn put_list(uplink: bool, list: &[u8], start: usize) {
+fn put_list<W: Write>(line: &mut W, uplink: bool, list: &[u8], start: usize) -> io::Result<()> {
     let mut at = start;
-    let mut i: usize = 0;
-    while i < list.len() {
-        at = put_step(uplink, list, at);
-        i += 1;
+    for _ in 0..list.len() {
+        at = put_step(line, uplink, list, at)?;
     }
-    put_end(read_step(uplink, list, at));
+    put_end(line, read_step(uplink, list, at))
 }
 
-fn read_list(record: &[u8], list: &mut [u8]) {
+fn read_list<W: Write>(line: &mut W, record: &[u8], list: &mut [u8]) -> io::Result<()> {
     copy(list, record, 12);
-    put_list(byte_at(record, 1) == 1, list, offset_at(record, 2));
+    put_list(line, byte_at(record, 1) == 1, list, offset_at(record, 2))
 }
 
-pub fn of_list(record: &[u8]) {
+pub fn of_list<W: Write>(line: &mut W, record: &[u8]) -> io::Result<()> {
     let length = length_at(record, 10);
     let mut list = [0u8; ROOM];
-    read_list(record, &mut list[..length]);
+    read_list(line, record, &mut list[..length])
 }
 
-fn put_written(written: Written) {
+fn put_written<W: Write>(line: &mut W, written: Written) -> io::Result<()> {
     match written {
         Written::Upto(end) => {
-            put(0);
-            put_length(end);
+            put(line, 0)?;
+            put_length(line, end)
         }
         Written::Refused(refusal) => {
-            put_refusal(refusal);
-            put_length(0);
+            put_refusal(line, refusal)?;
+            put_length(line, 0)
         }
     }
 }
@@ -140,45 +140,61 @@ fn values_at(record: &[u8], with_margin: bool) -> [u32; 5] {
     values
 }
 
-fn write_into(record: &[u8], out: &mut [u8]) {
+fn write_into<W: Write>(line: &mut W, record: &[u8], out: &mut [u8]) -> io::Result<()> {
     let uplink = byte_at(record, 1) == 1;
     let id = byte_at(record, 2);
     let values = values_at(record, uplink && id == 6);
-    put_written(write_fields(uplink, id, values, out, offset_at(record, 25)));
-    put_all(out);
+    put_written(
+        line,
+        write_fields(uplink, id, values, out, offset_at(record, 25)),
+    )?;
+    put_all(line, out)
 }
 
-pub fn written(record: &[u8]) {
+pub fn written<W: Write>(line: &mut W, record: &[u8]) -> io::Result<()> {
     let room = length_at(record, 23);
     let mut out = [0xA5u8; ROOM];
-    write_into(record, &mut out[..room]);
+    write_into(line, record, &mut out[..room])
 }
 
 // The commands of a frame from a place on, up to another.
-fn put_between(uplink: bool, frame: &[u8], start: usize, end: usize) {
+fn put_between<W: Write>(
+    line: &mut W,
+    uplink: bool,
+    frame: &[u8],
+    start: usize,
+    end: usize,
+) -> io::Result<()> {
     if end <= frame.len() {
-        put_list(uplink, &frame[..end], start);
+        put_list(line, uplink, &frame[..end], start)?;
     }
+    Ok(())
 }
 
-fn put_lists(frame: &[u8], lists: CommandLists) {
-    put(0);
-    put_flag(lists.uplink);
-    put_between(lists.uplink, frame, 8, lists.fopts_end);
-    put_between(lists.uplink, frame, lists.payload_start, lists.payload_end);
+fn put_lists<W: Write>(line: &mut W, frame: &[u8], lists: CommandLists) -> io::Result<()> {
+    put(line, 0)?;
+    put_flag(line, lists.uplink)?;
+    put_between(line, lists.uplink, frame, 8, lists.fopts_end)?;
+    put_between(
+        line,
+        lists.uplink,
+        frame,
+        lists.payload_start,
+        lists.payload_end,
+    )
 }
 
-fn read_frame(record: &[u8], frame: &mut [u8]) {
+fn read_frame<W: Write>(line: &mut W, record: &[u8], frame: &mut [u8]) -> io::Result<()> {
     copy(frame, record, 3);
     let found = command_lists(frame);
     match found {
-        InFrame::Lists(lists) => put_lists(frame, lists),
-        InFrame::Refused(refusal) => put_refusal(refusal),
+        InFrame::Lists(lists) => put_lists(line, frame, lists),
+        InFrame::Refused(refusal) => put_refusal(line, refusal),
     }
 }
 
-pub fn of_frame(record: &[u8]) {
+pub fn of_frame<W: Write>(line: &mut W, record: &[u8]) -> io::Result<()> {
     let length = length_at(record, 1);
     let mut frame = [0u8; ROOM];
-    read_frame(record, &mut frame[..length]);
+    read_frame(line, record, &mut frame[..length])
 }

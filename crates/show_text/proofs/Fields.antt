@@ -13,8 +13,8 @@ use borrow.Author.Tests.{leb-true}
 use Rattle.base.specs.Bytes.{part, AreBytes}
 use Rattle.base.proofs.Cases.{by_bool, by_order}
 use Rattle.base.proofs.Parts.{part-tab}
-use Rattle.frame.specs.Layout.{mic_of_of, fhdr_length_of, has_port_of, fport}
-use Rattle.frame.specs.Reading.{port_of_of, payload_of, data_of}
+use Rattle.frame.specs.Layout.{mic_of, fhdr_length_of, has_port_of, fport}
+use Rattle.frame.specs.Reading.{port_of, payload_of, data_of}
 use Rattle.frame.specs.ReadingNumbers.{port_number_of}
 use Rattle.frame.specs.Conditions.{IsData}
 use Rattle.frame.specs.declared.parser.DataFrame.{DataFrame}
@@ -22,7 +22,7 @@ use Rattle.frame.proofs.ReadingSteps.{port_there, port_absent}
 use Rattle.show_text.specs.Text.{Spans}
 
 payload_spans : (f : List ℕ) → IsData f → Spans (payload_of f)
-unfolding payload_of port_of_of
+unfolding payload_of port_of
 payload_spans f h =
     by_bool (has_port_of f)
     (λ e.
@@ -31,7 +31,7 @@ payload_spans f h =
     by_bool (eqb (fport f) 0) (λ z. simp (e, z) (ends, small)) (λ z. simp (e, z) (ends, small)))
     (λ e. simp e tt)
 
-port_below : (f : List ℕ) → AreBytes f → port_number_of (port_of_of f) < 100000
+port_below : (f : List ℕ) → AreBytes f → port_number_of (port_of f) < 100000
 port_below f b =
     by_order (fhdr_length_of f + 6) (length f) (λ h. rw (port_there f h) (omega (arith, b (1 + fhdr_length_of f))))
     (λ h. rw (port_absent f h) (omega arith))
@@ -62,12 +62,12 @@ pub fields : (f : List ℕ) (d : DataFrame) → AreBytes f → IsData f → d �
 fields f d b h e = subst (λ (x : DataFrame). Fields f x) (sym e) (fields_of f b h)
 
 -- the bytes from the MIC's place on
-pub mic-part : (f : List ℕ) (m : ℕ) → m ≡ length f - 4 → take (length f - m) (drop m f) ≡ mic_of_of f
+pub mic-part : (f : List ℕ) (m : ℕ) → m ≡ length f - 4 → take (length f - m) (drop m f) ≡ mic_of f
 mic-part f m e =
     take_all (length f - m) (drop m f) (omega (arith, length-drop m f)) ∙ ap (λ (n : ℕ). drop n f) e
 
 -- the last four of the 23 bytes of a join-request
-pub mic_last : (f : List ℕ) → length f ≡ 23 → part 19 4 f ≡ mic_of_of f
+pub mic_last : (f : List ℕ) → length f ≡ 23 → part 19 4 f ≡ mic_of f
 mic_last f h = ap (λ (n : ℕ). take (n - 19) (drop 19 f)) (sym h) ∙ mic-part f 19 (omega arith)
 
 -- FCtrl as a part of the frame

@@ -10,7 +10,7 @@ use lib.ListN.{length, length-append, length-drop, length-take}
 use borrow.Author.Tests.{lt-ltb, le-ltb}
 use Rattle.base.specs.Bytes.{part, AreBytes}
 use Rattle.base.proofs.Cases.{by_order}
-use Rattle.frame.specs.Layout.{mic_of_of}
+use Rattle.frame.specs.Layout.{mic_of}
 use Rattle.frame.specs.Reading.{read_of}
 use Rattle.frame.specs.ReadingNumbers.{port_number_of}
 use Rattle.frame.specs.Refusals.{refusal}
@@ -91,8 +91,8 @@ length_part i n s = simp length-take (omega arith)
 pub length_part_line : (word : List ℕ) (i n : ℕ) (s : List ℕ) → length (hex_line_of word (part i n s)) ≤ length word + 2 * n + 1
 length_part_line word i n s = omega (arith, length-hex_line_of word (part i n s), length_part i n s)
 
-pub length-mic_of_of : (f : List ℕ) → length (mic_of_of f) ≤ 4
-length-mic_of_of f = simp length-drop (omega arith)
+pub length-mic_of : (f : List ℕ) → length (mic_of f) ≤ 4
+length-mic_of f = simp length-drop (omega arith)
 
 module _ (f : List ℕ) (d : DataFrame) (known : Fields f d) where
   pub length-header_text : length (header_text f d) ≤ 45
@@ -115,7 +115,7 @@ module _ (f : List ℕ) (d : DataFrame) (known : Fields f d) where
         length_small_line fopts_word (d.fopts_end - 8) (omega (arith, known.fopts_most)),
         length-port_line d.port known.port_small,
         length-payload_line d.payload known.spans,
-        length-mic_of_of f,
+        length-mic_of f,
       ))
 
   length-data_text : length (data_text f d) ≤ 128
@@ -137,7 +137,7 @@ length-join_request_text f =
       length_part 1 8 f,
       length_part 9 8 f,
       length_part 17 2 f,
-      length-mic_of_of f,
+      length-mic_of f,
     ))
 
 length-join_accept_text : (n : ℕ) → n < 100000 → length (join_accept_text n) ≤ 24

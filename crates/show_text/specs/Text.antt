@@ -3,7 +3,7 @@
 -- Assumes nothing.
 use Rattle.std.specs.Prelude.{List, [], ◌∷◌, ◌++◌, ℕ, zero, suc, ◌+◌, ◌-◌, ◌/◌, ◌%◌, ◌≤◌, ◌<◌, ltb, length, drop}
 use Rattle.base.specs.Bytes.{pick}
-use Rattle.frame.specs.Layout.{dev_addr_of, mic_of_of, app_eui_of, dev_eui_of, dev_nonce_of}
+use Rattle.frame.specs.Layout.{dev_addr_of, mic_of, app_eui_of, dev_eui_of, dev_nonce_of}
 use Rattle.frame.specs.Reading.{read_of}
 use Rattle.frame.specs.Refusals.{refusal, refused, not_refused}
 use Rattle.frame.specs.declared.refusals.Refusal.{Refusal}
@@ -148,7 +148,7 @@ header_text f d =
 
 unfoldable pub rest_text : List ℕ → DataFrame → List ℕ
 rest_text f d =
-    number_line fopts_word (d.fopts_end - 8) ++ port_line d.port ++ payload_line d.payload ++ hex_line_of mic_word (mic_of_of f)
+    number_line fopts_word (d.fopts_end - 8) ++ port_line d.port ++ payload_line d.payload ++ hex_line_of mic_word (mic_of f)
 
 unfoldable pub data_text : List ℕ → DataFrame → List ℕ
 data_text f d = header_text f d ++ rest_text f d
@@ -158,7 +158,7 @@ abbrev pub euis_text : List ℕ → List ℕ
 euis_text f = number_line type_word 0 ++ hex_line_of app_word (app_eui_of f) ++ hex_line_of dev_word (dev_eui_of f)
 
 unfoldable pub join_request_text : List ℕ → List ℕ
-join_request_text f = euis_text f ++ hex_line_of nonce_word (dev_nonce_of f) ++ hex_line_of mic_word (mic_of_of f)
+join_request_text f = euis_text f ++ hex_line_of nonce_word (dev_nonce_of f) ++ hex_line_of mic_word (mic_of f)
 
 unfoldable pub join_accept_text : ℕ → List ℕ
 join_accept_text n = number_line type_word 1 ++ number_line length_word n

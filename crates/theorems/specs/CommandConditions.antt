@@ -7,7 +7,7 @@ use Rattle.base.specs.Bytes.{pick, at, part}
 use Rattle.frame.specs.Reading.{data_of}
 use Rattle.frame.specs.Refusals.{refusal, refused, not_refused}
 use Rattle.frame.specs.declared.refusals.Refusal.{Refusal}
-use Rattle.mac_commands.specs.Commands.{command_of_of}
+use Rattle.mac_commands.specs.Commands.{command_of}
 use Rattle.mac_commands.specs.InFrame.{lists_of}
 use Rattle.mac_commands.specs.Layout.{count_in_row, width_at, fields_of, low_first, row, row_of, size_of}
 use Rattle.mac_commands.specs.declared.in_frame.InFrame.{InFrame}
@@ -55,7 +55,7 @@ pub record WholeAt (up : Bool) (s : List ℕ) (i : ℕ) : Type 0 where
 -- which it is
 abbrev pub command_at : Bool → List ℕ → ℕ → Command
 command_at up s i =
-    command_of_of (row_of up (at s i)) (fields_of (row (row_of up (at s i))) (low_first (part (i + 1) (size_at up s i) s)))
+    command_of (row_of up (at s i)) (fields_of (row (row_of up (at s i))) (low_first (part (i + 1) (size_at up s i) s)))
 
 -- x is what a step answers
 pub record Steps (up : Bool) (s : List ℕ) (i : ℕ) (x : Step) : Type 0 where

@@ -3,8 +3,8 @@
 -- Assumes nothing.
 use Rattle.std.specs.Prelude.{◌≡◌, false, List, [], ◌∷◌, ℕ, ◌<◌, eqb, length}
 use Rattle.base.specs.Bytes.{pick}
-use Rattle.frame.specs.Layout.{payload, mic_of_of}
-use Rattle.frame.specs.Reading.{port_of_of}
+use Rattle.frame.specs.Layout.{payload, mic_of}
+use Rattle.frame.specs.Reading.{port_of}
 use Rattle.frame.specs.Refusals.{refused}
 use Rattle.frame.specs.declared.refusals.Refusal.{Refusal}
 use Rattle.frame.specs.declared.keys.MaybeKey.{MaybeKey}
@@ -21,10 +21,10 @@ use Rattle.theorems.specs.ByReading.{Needs, Is, ByReading}
 
 -- the last four bytes are the MIC of those ahead of them: of a data frame, and of a join message, a join-accept clear
 abbrev pub RightDataMic : List ℕ → ℕ → List ℕ → Type 0
-RightDataMic nwk counter f = mic_of_of f ≡ data_mic_of nwk (covered f) counter
+RightDataMic nwk counter f = mic_of f ≡ data_mic_of nwk (covered f) counter
 
 abbrev pub RightJoinMic : List ℕ → List ℕ → Type 0
-RightJoinMic key f = mic_of_of f ≡ join_mic key (covered f)
+RightJoinMic key f = mic_of f ≡ join_mic key (covered f)
 
 -- t is what a MIC test answers of a frame that may have a right MIC
 pub record Tests (k : Needs) (f : List ℕ) (Right : Type 0) (t : MicTest) : Type 0 where
@@ -36,8 +36,8 @@ pub record Tests (k : Needs) (f : List ℕ) (Right : Type 0) (t : MicTest) : Typ
 -- a payload on every other port
 pub data KeyMissing (f : List ℕ) (nwk app : MaybeKey) : Type 0 where
   empty : length (payload f) ≡ 0 → nwk.given ≡ false → KeyMissing f nwk app
-  zero : port_of_of f ≡ Port 0 → nwk.given ≡ false → KeyMissing f nwk app
-  other : (p : ℕ) → port_of_of f ≡ Port p → (p ≡ 0 → ⊥) → 0 < length (payload f) → app.given ≡ false → KeyMissing f nwk app
+  zero : port_of f ≡ Port 0 → nwk.given ≡ false → KeyMissing f nwk app
+  other : (p : ℕ) → port_of f ≡ Port p → (p ≡ 0 → ⊥) → 0 < length (payload f) → app.given ≡ false → KeyMissing f nwk app
 
 -- plain decryption of a data frame
 abbrev pub plain_conditions : MaybeKey → MaybeKey → List ℕ → List Condition

@@ -4,7 +4,7 @@
 -- Assumes nothing.
 use Rattle.std.specs.Prelude.{◌≡◌, Bool, List, ℕ, ℤ, length}
 use Rattle.frame.specs.Reading.{read_of}
-use Rattle.frame.specs.ReadingNumbers.{number_of, place_of, values_of_of}
+use Rattle.frame.specs.ReadingNumbers.{number_of, place_of, values_of}
 use Rattle.frame.specs.Refusals.{refusal}
 use Rattle.frame.specs.JoinFields.{join_request_fields_of, join_accept_fields_of}
 use Rattle.frame.specs.declared.refusals.Refusal.{Refusal}
@@ -67,7 +67,7 @@ pub data Reads (f : List ℕ) : Type 0 where
 -- the refusal that the call answers, none where it does what it is to
 abbrev pub reads_refusal : (f : List ℕ) → Reads f → Refusal
 reads_refusal f read = refusal (number_of (read_of f)) (place_of (read_of f))
-reads_refusal f view = refusal (values_of_of (read_of f)).number (values_of_of (read_of f)).place
+reads_refusal f view = refusal (values_of (read_of f)).number (values_of (read_of f)).place
 reads_refusal f request_fields = (join_request_fields_of f).refusal
 reads_refusal f accept_fields = (join_accept_fields_of f).refusal
 reads_refusal f (session_keys key dev_nonce_of) = (session_keys_of key dev_nonce_of f).refusal

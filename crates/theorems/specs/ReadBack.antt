@@ -5,8 +5,8 @@
 use Rattle.std.specs.Prelude.{◌≡◌, Bool, List, ◌++◌, ℕ, ◌+◌, ◌-◌, ◌/◌, ◌%◌, length, take}
 use Rattle.base.specs.Bytes.{pick, at, tab, part, zeros}
 use Rattle.frame.specs.JoinFields.{join_request_fields_of, join_accept_fields_of}
-use Rattle.frame.specs.Layout.{mtype, dev_addr_of, fctrl, fcnt, fhdr_length_of, header, payload, payload_start_of, payload_end_of, mic_of_of}
-use Rattle.frame.specs.Reading.{port_of_of, held_by_of, payload_of, data_of, read_of}
+use Rattle.frame.specs.Layout.{mtype, dev_addr_of, fctrl, fcnt, fhdr_length_of, header, payload, payload_start_of, payload_end_of, mic_of}
+use Rattle.frame.specs.Reading.{port_of, held_by_of, payload_of, data_of, read_of}
 use Rattle.frame.specs.Refusals.{not_refused}
 use Rattle.frame.specs.declared.join_fields.CfList.{CfList}
 use Rattle.frame.specs.declared.join_fields.CfList.TheVariants.{Absent as NoList, Frequencies}
@@ -47,20 +47,20 @@ pub record DataBack (nwk app : List ℕ) (d : DataParts) (commands body f : List
   pub fopts_end : 1 + fhdr_length_of f ≡ 8 + length (fopts_of d.port commands)
   pub fopts : part 8 (length (fopts_of d.port commands)) f ≡ fopts_of d.port commands
   -- the port, or none, as it was given, and what it says of the bytes behind it, also where there are none
-  pub port : port_of_of f ≡ d.port
+  pub port : port_of f ≡ d.port
   pub held : payload_of f ≡ held_by_of d.port (payload_start_of f) (payload_end_of f)
   -- header, clear payload or commands, MIC
   pub header_back : header f ≡ data_header d commands
   pub payload_back : crypted (frame_key f nwk app) (header f) d.fcnt (payload f) ≡ body_of d.port commands body
-  pub mic_back : mic_of_of f ≡ data_mic_of nwk (take (length f - 4) f) d.fcnt
+  pub mic_back : mic_of f ≡ data_mic_of nwk (take (length f - 4) f) d.fcnt
 
 -- its MIC passes, it opens to the clear payload or commands, plain and checked, and it opens for amendments
 pub record DataOpens (nwk app : List ℕ) (d : DataParts) (commands body f : List ℕ) : Type 0 where
   pub passes : data_test_of nwk d.fcnt f ≡ Passes
   pub opens : data_opened (given_key nwk) (given_key app) d.fcnt f
-      ≡ outcome Opened (data_header d commands ++ (body_of d.port commands body ++ mic_of_of f))
+      ≡ outcome Opened (data_header d commands ++ (body_of d.port commands body ++ mic_of f))
   pub opens_checked : data_opened_checked nwk (given_key app) d.fcnt f
-      ≡ outcome Opened (data_header d commands ++ (body_of d.port commands body ++ mic_of_of f))
+      ≡ outcome Opened (data_header d commands ++ (body_of d.port commands body ++ mic_of f))
   pub opens_to_amend : open_of f nwk app d.fcnt ≡ accepted_opening (opened_of f nwk app d.fcnt)
 
 pub record DataReadsBack (nwk app : List ℕ) (d : DataParts) (commands body f : List ℕ) : Type 0 where

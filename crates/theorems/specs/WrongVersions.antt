@@ -1,8 +1,8 @@
 -- The versions that docs/RULES.md names for trial under "What each call is held to", and what each would have to meet.
 -- Assumes nothing.
 use Rattle.std.specs.Prelude.{◌≡◌, List, [], ◌∷◌, ℕ, ◌+◌, length, take, set}
-use Rattle.frame.specs.Layout.{payload_start_of, mic_of_of}
-use Rattle.frame.specs.ReadingNumbers.{number_of, values_of_of}
+use Rattle.frame.specs.Layout.{payload_start_of, mic_of}
+use Rattle.frame.specs.ReadingNumbers.{number_of, values_of}
 use Rattle.frame.specs.Reading.{read_of}
 use Rattle.frame.specs.declared.parser.Reading.{Reading}
 use Rattle.frame_build.specs.DataBuilding.{data_refusal_of}
@@ -26,7 +26,7 @@ RefusesEach read = (f : List ℕ) → number_of (read f) ≡ 0 → ⊥
 
 -- one that shows the same fields for all frames that are to be accepted
 abbrev pub SameForAll : (List ℕ → Reading) → Type 0
-SameForAll read = (f g : List ℕ) → number_of (read_of f) ≡ 0 → number_of (read_of g) ≡ 0 → values_of_of (read f) ≡ values_of_of (read g)
+SameForAll read = (f g : List ℕ) → number_of (read_of f) ≡ 0 → number_of (read_of g) ≡ 0 → values_of (read f) ≡ values_of (read g)
 
 -- ---- builders: of both keys, the fields, commands, payload and the room for the frame
 
@@ -75,4 +75,4 @@ signs_first s (a ∷ list) = stores_only (amend_of s a.offset a.value).state lis
 abbrev pub ConstantMic : (Open → List Amendment → Open) → Type 0
 ConstantMic amend =
     (s t : Open) (a b : List Amendment)
-    → mic_of_of (take (amend s a).length (amend s a).frame) ≡ mic_of_of (take (amend t b).length (amend t b).frame)
+    → mic_of (take (amend s a).length (amend s a).frame) ≡ mic_of (take (amend t b).length (amend t b).frame)

@@ -3,6 +3,8 @@ use crate::report;
 use crate::report::Tally;
 use crate::sample::{KEY, MESSAGE};
 use base::storing::block_at;
+use std::io;
+use std::io::Write;
 
 // FIPS 197, A.1: the 44 words of its schedule.
 const WORDS_A1: [u8; 176] = [
@@ -58,22 +60,34 @@ const DECRYPTED_10000: [u8; 16] = [
     0x2a, 0x37, 0xcb, 0x18, 0x92, 0xc7, 0x7e, 0x69, 0xc6, 0x6c, 0x6f, 0x20, 0x50, 0x4d, 0xae, 0x12,
 ];
 
-fn encrypts(t: Tally, name: &[u8], key: [u8; 16], plain: [u8; 16], want: [u8; 16]) -> Tally {
-    report::compared(t, name, aes::encrypt(key, plain), want)
+fn encrypts<W: Write>(
+    out: &mut W,
+    t: Tally,
+    name: &[u8],
+    key: [u8; 16],
+    plain: [u8; 16],
+    want: [u8; 16],
+) -> io::Result<Tally> {
+    report::compared(out, t, name, aes::encrypt(key, plain), want)
 }
 
-fn decrypts(t: Tally, name: &[u8], key: [u8; 16], enciphered: [u8; 16], want: [u8; 16]) -> Tally {
-    report::compared(t, name, aes::decrypt(key, enciphered), want)
+fn decrypts<W: Write>(
+    out: &mut W,
+    t: Tally,
+    name: &[u8],
+    key: [u8; 16],
+    enciphered: [u8; 16],
+    want: [u8; 16],
+) -> io::Result<Tally> {
+    report::compared(out, t, name, aes::decrypt(key, enciphered), want)
 }
 
 fn encrypted_again(key: [u8; 16], block: [u8; 16], times: usize) -> [u8; 16] {
     let schedule = aes::key_expansion::expand(key);
     let mut b = block;
-    let mut n = 0;
-    while n < times {
+    for _ in 0..times {
         let next = aes::encrypt_under(&schedule, b);
         b = next;
-        n += 1;
     }
     b
 }
@@ -81,33 +95,45 @@ fn encrypted_again(key: [u8; 16], block: [u8; 16], times: usize) -> [u8; 16] {
 fn decrypted_again(key: [u8; 16], block: [u8; 16], times: usize) -> [u8; 16] {
     let schedule = aes::key_expansion::expand(key);
     let mut b = block;
-    let mut n = 0;
-    while n < times {
+    for _ in 0..times {
         let next = aes::decrypt_under(&schedule, b);
         b = next;
-        n += 1;
     }
     b
 }
 
-fn schedule(t: Tally) -> Tally {
+fn schedule<W: Write>(out: &mut W, t: Tally) -> io::Result<Tally> {
     let got = aes::key_expansion::expand(KEY);
-    let want = WORDS_A1;
-    report::told(t, b"FIPS 197 A.1, 44 words", check::same(&got, &want))
+    report::told(out, t, b"FIPS 197 A.1, 44 words", got == WORDS_A1)
 }
 
-fn fips197(t: Tally) -> Tally {
-    let t = encrypts(t, b"FIPS 197 B, encrypted", KEY, INPUT_B, OUTPUT_B);
-    let t = decrypts(t, b"FIPS 197 B, decrypted", KEY, OUTPUT_B, INPUT_B);
-    let t = encrypts(t, b"FIPS 197 C.1, encrypted", KEY_C1, PLAIN_C1, CIPHER_C1);
-    decrypts(t, b"FIPS 197 C.1, decrypted", KEY_C1, CIPHER_C1, PLAIN_C1)
+fn fips197<W: Write>(out: &mut W, t: Tally) -> io::Result<Tally> {
+    let t = encrypts(out, t, b"FIPS 197 B, encrypted", KEY, INPUT_B, OUTPUT_B)?;
+    let t = decrypts(out, t, b"FIPS 197 B, decrypted", KEY, OUTPUT_B, INPUT_B)?;
+    let t = encrypts(
+        out,
+        t,
+        b"FIPS 197 C.1, encrypted",
+        KEY_C1,
+        PLAIN_C1,
+        CIPHER_C1,
+    )?;
+    decrypts(
+        out,
+        t,
+        b"FIPS 197 C.1, decrypted",
+        KEY_C1,
+        CIPHER_C1,
+        PLAIN_C1,
+    )
 }
 
 // The message's block from a place on, and the one that it is enciphered to, which stands at the same place.
-fn encrypts_at(t: Tally, name: &[u8], place: usize) -> Tally {
+fn encrypts_at<W: Write>(out: &mut W, t: Tally, name: &[u8], place: usize) -> io::Result<Tally> {
     let clear = MESSAGE;
     let enciphered = ENCIPHERED;
     encrypts(
+        out,
         t,
         name,
         KEY,
@@ -116,10 +142,11 @@ fn encrypts_at(t: Tally, name: &[u8], place: usize) -> Tally {
     )
 }
 
-fn decrypts_at(t: Tally, name: &[u8], place: usize) -> Tally {
+fn decrypts_at<W: Write>(out: &mut W, t: Tally, name: &[u8], place: usize) -> io::Result<Tally> {
     let clear = MESSAGE;
     let enciphered = ENCIPHERED;
     decrypts(
+        out,
         t,
         name,
         KEY,
@@ -128,28 +155,32 @@ fn decrypts_at(t: Tally, name: &[u8], place: usize) -> Tally {
     )
 }
 
-fn sp800_38a_encrypted(t: Tally) -> Tally {
-    let t = encrypts_at(t, b"SP 800-38A F.1.1, block 1", 0);
-    let t = encrypts_at(t, b"SP 800-38A F.1.1, block 2", 16);
-    let t = encrypts_at(t, b"SP 800-38A F.1.1, block 3", 32);
-    encrypts_at(t, b"SP 800-38A F.1.1, block 4", 48)
+fn sp800_38a_encrypted<W: Write>(out: &mut W, t: Tally) -> io::Result<Tally> {
+    let t = encrypts_at(out, t, b"SP 800-38A F.1.1, block 1", 0)?;
+    let t = encrypts_at(out, t, b"SP 800-38A F.1.1, block 2", 16)?;
+    let t = encrypts_at(out, t, b"SP 800-38A F.1.1, block 3", 32)?;
+    encrypts_at(out, t, b"SP 800-38A F.1.1, block 4", 48)
 }
 
-fn sp800_38a_decrypted(t: Tally) -> Tally {
-    let t = decrypts_at(t, b"SP 800-38A F.1.2, block 1", 0);
-    let t = decrypts_at(t, b"SP 800-38A F.1.2, block 2", 16);
-    let t = decrypts_at(t, b"SP 800-38A F.1.2, block 3", 32);
-    decrypts_at(t, b"SP 800-38A F.1.2, block 4", 48)
+fn sp800_38a_decrypted<W: Write>(out: &mut W, t: Tally) -> io::Result<Tally> {
+    let t = decrypts_at(out, t, b"SP 800-38A F.1.2, block 1", 0)?;
+    let t = decrypts_at(out, t, b"SP 800-38A F.1.2, block 2", 16)?;
+    let t = decrypts_at(out, t, b"SP 800-38A F.1.2, block 3", 32)?;
+    decrypts_at(out, t, b"SP 800-38A F.1.2, block 4", 48)
 }
 
-fn chains(t: Tally) -> Tally {
+fn chains<W: Write>(out: &mut W, t: Tally) -> io::Result<Tally> {
     let e = encrypted_again(KEY_C1, PLAIN_C1, 10000);
-    let t = report::compared(t, b"10000 encryptions", e, ENCRYPTED_10000);
+    let t = report::compared(out, t, b"10000 encryptions", e, ENCRYPTED_10000)?;
     let d = decrypted_again(KEY_C1, PLAIN_C1, 10000);
-    report::compared(t, b"10000 decryptions", d, DECRYPTED_10000)
+    report::compared(out, t, b"10000 decryptions", d, DECRYPTED_10000)
 }
 
-pub(crate) fn all() {
-    let t = fips197(schedule(report::none()));
-    report::closed(chains(sp800_38a_decrypted(sp800_38a_encrypted(t))));
+pub(crate) fn all<W: Write>(out: &mut W) -> io::Result<()> {
+    let t = schedule(out, report::none())?;
+    let t = fips197(out, t)?;
+    let t = sp800_38a_encrypted(out, t)?;
+    let t = sp800_38a_decrypted(out, t)?;
+    let t = chains(out, t)?;
+    report::closed(out, t)
 }

@@ -1,7 +1,8 @@
 // What the program writes of its vectors, and how it counts them.
-use libc::STDOUT_FILENO;
+use std::io;
+use std::io::Write;
 
-#[derive(Drop)]
+#[derive(Clone, Copy)]
 pub(crate) struct Tally {
     pub vectors: u64,
     pub same: u64,
@@ -15,53 +16,55 @@ pub(crate) fn none() -> Tally {
 }
 
 pub(crate) fn one_more(count: u64) -> u64 {
-    std::num::wrapping_add_u64(count, 1)
+    count.wrapping_add(1)
 }
 
 // Writes what became of the vector, and counts it.
-pub(crate) fn told(t: Tally, name: &[u8], same: bool) -> Tally {
-    io::write_all(STDOUT_FILENO, name);
+pub(crate) fn told<W: Write>(out: &mut W, t: Tally, name: &[u8], same: bool) -> io::Result<Tally> {
+    out.write_all(name)?;
     let vectors = one_more(t.vectors);
     if same {
-        io::write_all(STDOUT_FILENO, b": same\n");
-        Tally {
+        out.write_all(b": same\n")?;
+        Ok(Tally {
             vectors,
             same: one_more(t.same),
-        }
+        })
     } else {
-        io::write_all(STDOUT_FILENO, b": DIFFERS\n");
-        Tally {
+        out.write_all(b": DIFFERS\n")?;
+        Ok(Tally {
             vectors,
             same: t.same,
-        }
+        })
     }
 }
 
-pub(crate) fn compared(t: Tally, name: &[u8], got: [u8; 16], want: [u8; 16]) -> Tally {
-    told(t, name, check::same(&got, &want))
+pub(crate) fn compared<W: Write>(
+    out: &mut W,
+    t: Tally,
+    name: &[u8],
+    got: [u8; 16],
+    want: [u8; 16],
+) -> io::Result<Tally> {
+    told(out, t, name, got == want)
 }
 
-pub(crate) fn closed(t: Tally) {
-    io::print_decimal(STDOUT_FILENO, t.vectors);
-    io::write_all(STDOUT_FILENO, b" vectors, ");
-    io::print_decimal(STDOUT_FILENO, t.same);
-    io::write_all(STDOUT_FILENO, b" the same\n");
+pub(crate) fn closed<W: Write>(out: &mut W, t: Tally) -> io::Result<()> {
+    writeln!(out, "{} vectors, {} the same", t.vectors, t.same)
 }
 
 fn wide(b: u8) -> u64 {
     b as u64
 }
 
-fn put_digits(block: [u8; 16]) {
-    let mut i: usize = 0;
-    while i < 16 {
-        io::print_hex(STDOUT_FILENO, wide(block[i]), 2);
-        i += 1;
+fn put_digits<W: Write>(out: &mut W, block: [u8; 16]) -> io::Result<()> {
+    for b in block {
+        write!(out, "{:02x}", wide(b))?;
     }
+    Ok(())
 }
 
 // A block as a line of digits.
-pub(crate) fn hex_line(block: [u8; 16]) {
-    put_digits(block);
-    io::write_all(STDOUT_FILENO, b"\n");
+pub(crate) fn hex_line<W: Write>(out: &mut W, block: [u8; 16]) -> io::Result<()> {
+    put_digits(out, block)?;
+    out.write_all(b"\n")
 }

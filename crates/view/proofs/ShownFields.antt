@@ -13,8 +13,8 @@ use borrow.Author.Tests.{le-ltb, le-leb, lt-leb}
 use Rattle.base.specs.Bytes.{pick, at, part}
 use Rattle.base.proofs.Cases.{by_bool, by_order}
 use Rattle.frame.specs.Layout.{fhdr_length_of, has_port_of, fport, header_end_of, payload_start_of, payload_end_of}
-use Rattle.frame.specs.Reading.{port_of_of, held_by_of, payload_of, data_of, read_of}
-use Rattle.frame.specs.ReadingNumbers.{port_given_of, port_number_of, payload_kind_of, payload_from_of, payload_to_of, plain_values_of, data_values_of, values_of_of}
+use Rattle.frame.specs.Reading.{port_of, held_by_of, payload_of, data_of, read_of}
+use Rattle.frame.specs.ReadingNumbers.{port_given_of, port_number_of, payload_kind_of, payload_from_of, payload_to_of, plain_values_of, data_values_of, values_of}
 use Rattle.frame.specs.Conditions.{IsData}
 use Rattle.frame.specs.declared.parser.FPort.TheVariants.{Absent, Port}
 use Rattle.frame.specs.declared.parser.FrmPayload.{FrmPayload}
@@ -60,7 +60,7 @@ same false a = refl
 module _ (f : List ℕ) where
   of_payload : {A : Type 0} (g : FrmPayload → A) → g (payload_of f)
       ≡ pick (has_port_of f) (pick (eqb (fport f) 0) (g (MacCommands (payload_start_of f) (payload_end_of f))) (g (PlainData (payload_start_of f) (payload_end_of f)))) (g Nothing)
-  unfolding payload_of port_of_of
+  unfolding payload_of port_of
   of_payload g = chosen g (has_port_of f) (fport f) (payload_start_of f) (payload_end_of f)
 
   pub payload_start : payload_from_of (payload_of f) ≡ pick (has_port_of f) (payload_start_of f) 0
@@ -69,12 +69,12 @@ module _ (f : List ℕ) where
   pub payload_end : payload_to_of (payload_of f) ≡ pick (has_port_of f) (payload_end_of f) 0
   payload_end = of_payload payload_to_of ∙ ap (λ (n : ℕ). pick (has_port_of f) n 0) (same (eqb (fport f) 0) (payload_end_of f))
 
-  pub port_is_given : port_given_of (port_of_of f) ≡ has_port_of f
-  unfolding port_of_of
+  pub port_is_given : port_given_of (port_of f) ≡ has_port_of f
+  unfolding port_of
   port_is_given = by_bool (has_port_of f) (λ e. rw e) (λ e. rw e)
 
-  pub port_is : port_number_of (port_of_of f) ≡ pick (has_port_of f) (fport f) 0
-  unfolding port_of_of
+  pub port_is : port_number_of (port_of f) ≡ pick (has_port_of f) (fport f) 0
+  unfolding port_of
   port_is = by_bool (has_port_of f) (λ e. rw e) (λ e. rw e)
 
   -- the numbers of a data frame are those of the layout
@@ -133,12 +133,12 @@ unfolding field_place_of plain_values_of
 refused_field f n p field = piece_nowhere f
 
 -- by what an answer says of the frame
-by_answer : (f : List ℕ) (r : Reading) → Says f r → (field : Field) → shown_of f (values_of_of r) field ≡ field_in r f field
+by_answer : (f : List ℕ) (r : Reading) → Says f r → (field : Field) → shown_of f (values_of r) field ≡ field_in r f field
 by_answer f JoinRequest h field = join_field_lem f h.long field
 by_answer f (JoinAccept n) h field = accept_field f n field
 by_answer f (Data d) h field = ap (λ (x : DataFrame). shown_of f (data_values_of x) field) h.1 ∙ data_field_lem f h.0 field
 by_answer f (Refused r) h field = refused_field f r.number r.place field
 
 -- every field of every frame
-pub shows : (f : List ℕ) (field : Field) → shown_of f (values_of_of (read_of f)) field ≡ field_of f field
+pub shows : (f : List ℕ) (field : Field) → shown_of f (values_of (read_of f)) field ≡ field_of f field
 shows f field = by_answer f (read_of f) (answers f) field

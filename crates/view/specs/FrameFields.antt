@@ -3,7 +3,7 @@
 -- Assumes nothing.
 use Rattle.std.specs.Prelude.{List, [], ℕ, ◌-◌, ◌%◌, length}
 use Rattle.base.specs.Bytes.{pick, at, part}
-use Rattle.frame.specs.Layout.{dev_addr_of, has_port_of, payload_start_of, payload, mic_of_of, app_eui_at, dev_eui_at, dev_nonce_at, request_mic_at, app_eui_of, dev_eui_of, dev_nonce_of}
+use Rattle.frame.specs.Layout.{dev_addr_of, has_port_of, payload_start_of, payload, mic_of, app_eui_at, dev_eui_at, dev_nonce_at, request_mic_at, app_eui_of, dev_eui_of, dev_nonce_of}
 use Rattle.frame.specs.Reading.{read_of}
 use Rattle.frame.specs.declared.parser.Reading.{Reading}
 use Rattle.frame.specs.declared.parser.Reading.TheVariants.{JoinRequest, JoinAccept, Data, Refused}
@@ -26,7 +26,7 @@ data_field f Payload = pick (has_port_of f) (payload_start_of f, payload f) no_f
 data_field f AppEui = no_field
 data_field f DevEui = no_field
 data_field f DevNonce = no_field
-data_field f Mic = (length f - 4, mic_of_of f)
+data_field f Mic = (length f - 4, mic_of f)
 
 -- 6.2.4 of a join-request: AppEUI of eight bytes, DevEUI of eight, DevNonce of two, MIC of four
 abbrev pub join_field : List ℕ → Field → ℕ × List ℕ
@@ -36,7 +36,7 @@ join_field f Payload = no_field
 join_field f AppEui = (app_eui_at, app_eui_of f)
 join_field f DevEui = (dev_eui_at, dev_eui_of f)
 join_field f DevNonce = (dev_nonce_at, dev_nonce_of f)
-join_field f Mic = (request_mic_at, mic_of_of f)
+join_field f Mic = (request_mic_at, mic_of f)
 
 abbrev pub field_in : Reading → List ℕ → Field → ℕ × List ℕ
 field_in JoinRequest f field = join_field f field

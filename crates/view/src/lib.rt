@@ -4,10 +4,10 @@
 
 ghost use Rattle.std.specs.Prelude.{◌≡◌};
 ghost use Rattle.frame.specs.Reading.{read_of};
-ghost use Rattle.frame.specs.ReadingNumbers.{values_of_of};
+ghost use Rattle.frame.specs.ReadingNumbers.{values_of};
 ghost use Rattle.view.specs.FrameFields.{field_of};
 ghost use Rattle.view.specs.Parts.{seen, within};
-ghost use Rattle.view.specs.Viewed.{view_of, part_of_of};
+ghost use Rattle.view.specs.Viewed.{view_of, part_of};
 
 use crate::parts::{Field, shown};
 use frame::numbers::{Values, values_of};
@@ -23,7 +23,7 @@ pub struct View<'a> {
 
 // What a frame says in numbers, and where its parts lie.
 fn numbers_of(frame: &[u8]) -> Values
-    ensures { result ≡ values_of_of (read_of frame.now) }
+    ensures { result ≡ values_of (read_of frame.now) }
 {
     values_of(read(frame))
 }
@@ -42,56 +42,56 @@ impl<'a> View<'a> {
 
     // A field as a part of the caller's bytes: the empty part where the view has none, whoever made the view.
     pub fn part(self, field: Field) -> &'a [u8]
-        ensures { seen result ≡ part_of_of self.entry field }
+        ensures { seen result ≡ part_of self.entry field }
     {
         shown(self.bytes, self.numbers, field)
     }
 
     // DevAddr of a data frame (4.3.1), in frame order.
     pub fn dev_addr(self) -> &'a [u8]
-        ensures { seen result ≡ part_of_of self.entry Field.DevAddr }
+        ensures { seen result ≡ part_of self.entry Field.DevAddr }
     {
         self.part(Field::DevAddr)
     }
 
     // FOpts of a data frame (4.3.1.6).
     pub fn fopts(self) -> &'a [u8]
-        ensures { seen result ≡ part_of_of self.entry Field.FOpts }
+        ensures { seen result ≡ part_of self.entry Field.FOpts }
     {
         self.part(Field::FOpts)
     }
 
     // FRMPayload of a data frame (4.3.3), encrypted as it came.
     pub fn payload(self) -> &'a [u8]
-        ensures { seen result ≡ part_of_of self.entry Field.Payload }
+        ensures { seen result ≡ part_of self.entry Field.Payload }
     {
         self.part(Field::Payload)
     }
 
     // AppEUI of a join-request (6.2.4).
     pub fn app_eui(self) -> &'a [u8]
-        ensures { seen result ≡ part_of_of self.entry Field.AppEui }
+        ensures { seen result ≡ part_of self.entry Field.AppEui }
     {
         self.part(Field::AppEui)
     }
 
     // DevEUI of a join-request.
     pub fn dev_eui(self) -> &'a [u8]
-        ensures { seen result ≡ part_of_of self.entry Field.DevEui }
+        ensures { seen result ≡ part_of self.entry Field.DevEui }
     {
         self.part(Field::DevEui)
     }
 
     // DevNonce of a join-request.
     pub fn dev_nonce(self) -> &'a [u8]
-        ensures { seen result ≡ part_of_of self.entry Field.DevNonce }
+        ensures { seen result ≡ part_of self.entry Field.DevNonce }
     {
         self.part(Field::DevNonce)
     }
 
     // The MIC of a data frame or a join-request (4.4).
     pub fn mic(self) -> &'a [u8]
-        ensures { seen result ≡ part_of_of self.entry Field.Mic }
+        ensures { seen result ≡ part_of self.entry Field.Mic }
     {
         self.part(Field::Mic)
     }

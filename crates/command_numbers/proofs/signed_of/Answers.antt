@@ -7,16 +7,16 @@ use mir.Syntax.{w8, w64}
 use mir.Val.{SFits, to_z, of_z}
 use mir.Facts.{to_z-of_z, to_z_pos, sfits_widen}
 use Prim.Native.Nat.{ℕ}
-use Rattle.mac_commands.specs.Commands.{margin_of_of}
+use Rattle.mac_commands.specs.Commands.{margin_of}
 use Rattle.mac_commands.proofs.MarginLaws.{margin_fits}
 use Rattle.command_numbers.proofs.NumberLaws.{status_row, other_row}
 use Rattle.command_numbers.proofs.signed_of.Goals as goal
 
 -- what `margin_of` gave, as the local holds it
-held : (x : ℕ) {m : ℤ} → m ≡ margin_of_of x → to_z w8 (of_z w8 m) ≡ margin_of_of x
+held : (x : ℕ) {m : ℤ} → m ≡ margin_of x → to_z w8 (of_z w8 m) ≡ margin_of x
 held x e = ap (λ (z : ℤ). to_z w8 (of_z w8 z)) e ∙ to_z-of_z (margin_fits x)
 
-wider : (x : ℕ) → SFits w64 (margin_of_of x)
+wider : (x : ℕ) → SFits w64 (margin_of x)
 wider x = sfits_widen {w = w8} {w' = w64} tt (margin_fits x)
 
 pub returns-then-row-eq-STATUS_ROW : goal.returns-then-row-eq-STATUS_ROW

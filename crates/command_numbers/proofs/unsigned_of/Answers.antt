@@ -7,12 +7,12 @@ use mathlib.Core.Bool.{false}
 use mir.Syntax.{w64}
 use mir.Val.{SFits, to_z, of_z}
 use mir.Facts.{to_z-of_z}
-use Rattle.command_numbers.specs.Numbers.{unsigned_of_of}
+use Rattle.command_numbers.specs.Numbers.{unsigned_of}
 use Rattle.command_numbers.proofs.NumberLaws.{negative, over, inside}
 use Rattle.command_numbers.proofs.unsigned_of.Goals as goal
 
 plain : {z : ℤ} → SFits w64 z → lt_z (to_z w64 (of_z w64 z)) (pos 0) ≡ false → lt_z (pos 4294967295) (to_z w64 (of_z w64 z)) ≡ false
-    → to_z w64 (of_z w64 z) ≡ pos (unsigned_of_of z)
+    → to_z w64 (of_z w64 z) ≡ pos (unsigned_of z)
 plain {z} f l h = let e : to_z w64 (of_z w64 z) ≡ z = to_z-of_z f in e ∙ inside z (rw e at l) (rw e at h)
 
 pub returns-then-z-lt0 : goal.returns-then-z-lt0

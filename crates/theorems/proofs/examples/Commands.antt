@@ -6,9 +6,9 @@ use mathlib.Core.Bool.{true, false}
 use mathlib.Core.List.{List, [], ◌∷◌}
 use Prim.Native.Nat.{ℕ}
 use lib.IntN.{pos, negsuc}
-use Rattle.frame.specs.Reading.{port_of_of, payload_of, data_of, read_data_of, read_type_of, read_of}
+use Rattle.frame.specs.Reading.{port_of, payload_of, data_of, read_data_of, read_type_of, read_of}
 use Rattle.frame.specs.Refusals.{refusal, refused}
-use Rattle.mac_commands.specs.Commands.{margin_of_of, raw_of_of, commands, command_of_of, fields_as, raw_at, raw_step_at, step_at, row_bytes, bytes_as, put_as, written_as, command_written, fields_written}
+use Rattle.mac_commands.specs.Commands.{margin_of, raw_of, commands, command_of, fields_as, raw_at, raw_step_at, step_at, row_bytes, bytes_as, put_as, written_as, command_written, fields_written}
 use Rattle.mac_commands.specs.InFrame.{lists_of, in_frame_of, fopts_commands, payload_commands}
 use Rattle.mac_commands.specs.Layout.{bits_of, place_in_row, width_at, number_of, fits, low_first, bytes_of, downs, ups, row, size_of}
 use Rattle.mac_commands.specs.Lists.{Placed, list_from, list_at}
@@ -23,12 +23,12 @@ use Rattle.mac_commands.specs.declared.maccommandcreator.Written.TheVariants.{Up
 
 -- data rate 5, power 2, channels 0, 1, 2 and 8, control 3, once; the reserved bit of the last byte is set, and is ignored
 pub adr_request : step_at false (0x03 ∷ 0x52 ∷ 0x07 ∷ 0x01 ∷ 0xB1 ∷ []) 0 ≡ Found (LinkADRReq 5 2 0x0107 3 1) 5
-unfolding row downs ups bits_of size_of place_in_row width_at low_first commands command_of_of raw_at raw_step_at step_at
+unfolding row downs ups bits_of size_of place_in_row width_at low_first commands command_of raw_at raw_step_at step_at
 adr_request = refl
 
 -- battery 255, margin -7
 pub status_answer : step_at true (0x06 ∷ 0xFF ∷ 0x39 ∷ []) 0 ≡ Found (DevStatusAns 255 (negsuc 6)) 3
-unfolding row downs ups bits_of size_of place_in_row width_at low_first margin_of_of commands command_of_of raw_at raw_step_at step_at
+unfolding row downs ups bits_of size_of place_in_row width_at low_first margin_of commands command_of raw_at raw_step_at step_at
 status_answer = refl
 
 -- an unknown identifier that nothing follows is unknown, and not cut short
@@ -51,7 +51,7 @@ pub two_and_a_cut : list_at true (0x03 ∷ 0x06 ∷ 0x06 ∷ 0xFF ∷ 0x39 ∷ 0
       commands = at_place 0 (LinkADRAns 1 1 0) ∷ at_place 2 (DevStatusAns 255 (negsuc 6)) ∷ [];
       end = Refused (refusal 17 5);
     }
-unfolding row downs ups bits_of size_of place_in_row width_at low_first margin_of_of commands command_of_of raw_at raw_step_at step_at list_from list_at
+unfolding row downs ups bits_of size_of place_in_row width_at low_first margin_of commands command_of raw_at raw_step_at step_at list_from list_at
 two_and_a_cut = refl
 
 -- ---- writing
@@ -63,12 +63,12 @@ window_request = refl
 
 -- the ends of the margin, and one past each: 18 goes before 7, so that it is given of no bytes too
 pub margin_ends : (command_written (DevStatusAns 0 (negsuc 31)) 3 0 ≡ Upto 3) × (command_written (DevStatusAns 0 (pos 31)) 3 0 ≡ Upto 3)
-unfolding row downs ups bits_of size_of fits raw_of_of fields_as put_as written_as
+unfolding row downs ups bits_of size_of fits raw_of fields_as put_as written_as
 margin_ends = (refl, refl)
 
 pub margin_past : (command_written (DevStatusAns 0 (negsuc 32)) 0 0 ≡ Unwritten (refused 18))
     × (command_written (DevStatusAns 0 (pos 32)) 0 0 ≡ Unwritten (refused 18))
-unfolding row downs ups bits_of size_of fits raw_of_of fields_as put_as written_as
+unfolding row downs ups bits_of size_of fits raw_of fields_as put_as written_as
 margin_past = (refl, refl)
 
 -- 16 goes before both
@@ -86,7 +86,7 @@ abbrev example_lists : CommandLists
 example_lists = record { uplink = true; fopts_end = 13; on_port_0 = true; payload_start = 14; payload_end = 15 }
 
 pub frame_lists : in_frame_of example_frame ≡ Lists example_lists
-unfolding in_frame_of lists_of read_of read_type_of read_data_of data_of port_of_of payload_of
+unfolding in_frame_of lists_of read_of read_type_of read_data_of data_of port_of payload_of
 frame_lists = refl
 
 pub frame_fopts : fopts_commands example_lists example_frame
@@ -94,9 +94,9 @@ pub frame_fopts : fopts_commands example_lists example_frame
       commands = at_place 8 (LinkADRAns 1 1 0) ∷ at_place 10 (DevStatusAns 255 (negsuc 6)) ∷ [];
       end = End;
     }
-unfolding row downs ups bits_of size_of place_in_row width_at low_first margin_of_of commands command_of_of raw_at raw_step_at step_at list_from list_at
+unfolding row downs ups bits_of size_of place_in_row width_at low_first margin_of commands command_of raw_at raw_step_at step_at list_from list_at
 frame_fopts = refl
 
 pub frame_payload : payload_commands example_lists example_frame ≡ record { commands = []; end = Refused (refusal 17 14) }
-unfolding row downs ups bits_of size_of place_in_row width_at low_first margin_of_of commands command_of_of raw_at raw_step_at step_at list_from list_at
+unfolding row downs ups bits_of size_of place_in_row width_at low_first margin_of commands command_of raw_at raw_step_at step_at list_from list_at
 frame_payload = refl

@@ -15,7 +15,7 @@ use Rattle.frame.specs.Refusals.{refusal, refused}
 use Rattle.frame_build.specs.declared.creator.Built.TheVariants.{Frame, Refused as NotBuilt}
 use Rattle.frame_build.specs.declared.creator.data_frame.DataParts.{DataParts}
 use Rattle.frame_build.proofs.DataBuiltLaws.{frame_long}
-use Rattle.frame.specs.Reading.{port_of_of, payload_of, data_of, read_join_request_of, read_join_accept_of, read_data_of, read_type_of, read_of}
+use Rattle.frame.specs.Reading.{port_of, payload_of, data_of, read_join_request_of, read_join_accept_of, read_data_of, read_type_of, read_of}
 use Rattle.frame.specs.declared.parser.FPort.{FPort}
 use Rattle.frame.specs.declared.parser.FPort.TheVariants.{Absent, Port}
 use Rattle.frame.specs.declared.parser.FrmPayload.{FrmPayload}
@@ -142,7 +142,7 @@ long o commands payload =
     (frame_long o.nwk o.app (on_port_one o) commands payload)
 
 pub table : All rows
-unfolding read_of read_type_of read_join_request_of read_join_accept_of read_data_of data_of port_of_of payload_of full_counter_of data_refusal_of data_header fixed_header_of
+unfolding read_of read_type_of read_join_request_of read_join_accept_of read_data_of data_of port_of payload_of full_counter_of data_refusal_of data_header fixed_header_of
 table = (
   λ a. refl,
   (

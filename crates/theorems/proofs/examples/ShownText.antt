@@ -5,7 +5,7 @@ use mathlib.Core.Path.{◌≡◌, refl}
 use mathlib.Core.List.{List, [], ◌∷◌, ◌++◌}
 use Prim.Native.Nat.{ℕ}
 use Rattle.base.specs.Bytes.{zeros}
-use Rattle.frame.specs.Reading.{port_of_of, payload_of, data_of, read_join_request_of, read_data_of, read_type_of, read_of}
+use Rattle.frame.specs.Reading.{port_of, payload_of, data_of, read_join_request_of, read_data_of, read_type_of, read_of}
 use Rattle.show_text.specs.Text.{digit_of, hex_of, decimal_in, decimal_of, hex_line_of, number_line, pair_line, port_line, place_line, payload_line, header_text, rest_text, data_text, refusal_text, text_of_reading, text_of, text_of_input}
 
 -- 40 04030201 00 0500, what follows, 11223344
@@ -37,12 +37,12 @@ port_lines port count =
 
 -- port 0 with the byte AA: port 0, payload 9 1
 pub example : text_of (frame_with (0 ∷ 170 ∷ [])) ≡ text_with (port_lines 48 49)
-unfolding text_of text_of_reading data_text header_text rest_text payload_line place_line pair_line port_line number_line hex_line_of decimal_of decimal_in hex_of digit_of read_of read_type_of read_data_of data_of payload_of port_of_of
+unfolding text_of text_of_reading data_text header_text rest_text payload_line place_line pair_line port_line number_line hex_line_of decimal_of decimal_in hex_of digit_of read_of read_type_of read_data_of data_of payload_of port_of
 example = refl
 
 -- port 5 with nothing behind it: port 5, payload 9 0
 pub heartbeat : text_of (frame_with (5 ∷ [])) ≡ text_with (port_lines 53 48)
-unfolding text_of text_of_reading data_text header_text rest_text payload_line place_line pair_line port_line number_line hex_line_of decimal_of decimal_in hex_of digit_of read_of read_type_of read_data_of data_of payload_of port_of_of
+unfolding text_of text_of_reading data_text header_text rest_text payload_line place_line pair_line port_line number_line hex_line_of decimal_of decimal_in hex_of digit_of read_of read_type_of read_data_of data_of payload_of port_of
 heartbeat = refl
 
 -- ---- refusals, each with its place

@@ -1,5 +1,5 @@
--- The promise of each call that shows a part of a slice fixes the place in memory and the bytes of what it shows, and that of
--- `View::of` the view. What no program can see, the ghost name of a reference, it leaves open.
+-- The promise of each call that shows a part of a slice fixes the place in memory and the bytes of what it shows, which is all of
+-- what a `&` is, and that of `View::of` the view.
 -- Assumes nothing.
 use mathlib.Core.Path.{◌≡◌, sym, ◌∙◌}
 use mathlib.Core.List.{List}
@@ -16,10 +16,10 @@ use denote.Ref.{Bor}
 use denote.Triple.Entry.{Args, Res}
 use denote.Triple.Clauses.{Ended, Clauses, AtExit}
 use Rattle.view.specs.Parts.{seen}
-use Rattle.view.specs.Viewed.{view_of, part_of_of}
+use Rattle.view.specs.Viewed.{view_of, part_of}
 use Rattle.view.specs.declared.parts.Field.{Field}
 use Rattle.view.specs.declared.parts.Field.TheVariants.{DevAddr, FOpts, Payload, AppEui, DevEui, DevNonce, Mic}
-use Rattle.view.proofs.part_of.Reads as part_of
+use Rattle.view.proofs.part_of.Reads as view-part-of
 use Rattle.view.specs.contracts.View.of as made
 use Rattle.view.specs.contracts.View.part as part
 use Rattle.view.specs.contracts.View.dev_addr as dev-addr
@@ -37,7 +37,7 @@ abbrev pub SamePart : {K : Type 0} {D S : K → Type 0} → ((κs : K) → D κs
 SamePart {K} {D} {S} post =
     (κs : K) (a : D κs) (x y : Bor (List ℕ)) (s t : S κs) → post κs a x s → post κs a y t → seen x ≡ seen y
 
-pub part_of_determined : SamePart part_of.Learnt
+pub part_of_determined : SamePart view-part-of.Learnt
 part_of_determined κs a x y s t p q = p ∙ sym q
 
 -- ---- calls on a view, whose contracts are assertions: said of two answers, they fix what f takes of them
@@ -60,7 +60,7 @@ module _ {M : Type 1} {𝓤 : Ura M} (𝓛 : Logic 𝓤) (mem : Memory → SProp
   of_fixed κs a g x y s t = equal x y (view_of a.0)
 
   pub part_fixed : Fixes 𝓤 part.ended (λ κs r. seen r) (part.clauses 𝓛 mem run)
-  part_fixed κs a g x y s t = equal (seen x) (seen y) (part_of_of a.0 a.1.0)
+  part_fixed κs a g x y s t = equal (seen x) (seen y) (part_of a.0 a.1.0)
 
   -- the methods that show one field have one signature
   abbrev Shows_one : Clauses 𝓤 dev-addr.ended → Type 1
@@ -68,10 +68,10 @@ module _ {M : Type 1} {𝓤 : Ura M} (𝓛 : Logic 𝓤) (mem : Memory → SProp
 
   -- what is shown is that field of the view
   abbrev shows_field : Field → Clauses 𝓤 dev-addr.ended
-  shows_field field κs a = record { ghost = Unit {0}; requires = λ g. emp 𝓤; ensures = λ g r end. fact 𝓤 (seen r ≡ part_of_of a.0 field) }
+  shows_field field κs a = record { ghost = Unit {0}; requires = λ g. emp 𝓤; ensures = λ g r end. fact 𝓤 (seen r ≡ part_of a.0 field) }
 
   one_field : (field : Field) → Shows_one (shows_field field)
-  one_field field κs a g x y s t = equal (seen x) (seen y) (part_of_of a.0 field)
+  one_field field κs a g x y s t = equal (seen x) (seen y) (part_of a.0 field)
 
   pub dev_addr_fixed : Shows_one (dev-addr.clauses 𝓛 mem run)
   dev_addr_fixed = one_field DevAddr

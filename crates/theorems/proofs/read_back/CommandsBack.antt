@@ -13,8 +13,8 @@ use Rattle.base.specs.Bytes.{pick, part}
 use Rattle.base.proofs.Cases.{by_order}
 use Rattle.frame.specs.Conditions.{IsData}
 use Rattle.frame_bits.specs.Fctrl.{uplink_of}
-use Rattle.frame.specs.Layout.{mtype, fhdr_length_of, header_end_of, header, payload, payload_start_of, payload_end_of, mic_of_of}
-use Rattle.frame.specs.Reading.{port_of_of, held_by_of, payload_of, data_of, read_of}
+use Rattle.frame.specs.Layout.{mtype, fhdr_length_of, header_end_of, header, payload, payload_start_of, payload_end_of, mic_of}
+use Rattle.frame.specs.Reading.{port_of, held_by_of, payload_of, data_of, read_of}
 use Rattle.frame.specs.ReadingNumbers.{on_data}
 use Rattle.frame.specs.declared.parser.FPort.{FPort}
 use Rattle.frame.specs.declared.parser.FPort.TheVariants.{Absent, Port}
@@ -74,10 +74,10 @@ no_list port s e mic (other p q n) =
     (record { none = refl; start = refl; end = refl }))
 
 -- of any bytes g, by the lists of the frame f
-module _ (f g : List ℕ) (not_0 : NotPort0 (port_of_of f)) where
+module _ (f g : List ℕ) (not_0 : NotPort0 (port_of f)) where
   without : NoList (payload_of f) (length f - 4)
   unfolding payload_of
-  without = no_list (port_of_of f) (payload_start_of f) (payload_end_of f) (length f - 4) not_0
+  without = no_list (port_of f) (payload_start_of f) (payload_end_of f) (length f - 4) not_0
 
   not_there : (lists_of (data_of f)).on_port_0 ≡ false
   unfolding lists_of data_of
@@ -91,7 +91,7 @@ module _ (f g : List ℕ) (not_0 : NotPort0 (port_of_of f)) where
       (omega (arith, length-take (commands_to (payload_of f) (length f - 4)) g))
 
 -- a frame that is not on port 0 has no list there
-pub no_port_0 : (f : List ℕ) (l : CommandLists) → in_frame_of f ≡ Lists l → NotPort0 (port_of_of f)
+pub no_port_0 : (f : List ℕ) (l : CommandLists) → in_frame_of f ≡ Lists l → NotPort0 (port_of f)
     → (l.on_port_0 ≡ false) × (payload_commands l f ≡ listed l.payload_start [])
 no_port_0 f l e p =
     let its : l ≡ lists_of (data_of f) = ((lists_found f l).there e).1 in (
@@ -117,11 +117,11 @@ to_fopts port commands (other q e n) =
     ap (λ (p : FPort). fopts_of p commands) e ∙ ap (λ (b : Bool). pick b [] commands) (ne_eqb q 0 n)
 
 -- a port that is reported has its byte
-port_byte : (f : List ℕ) (q : ℕ) → port_of_of f ≡ Port q → fhdr_length_of f + 6 ≤ length f
+port_byte : (f : List ℕ) (q : ℕ) → port_of f ≡ Port q → fhdr_length_of f + 6 ≤ length f
 port_byte f q e =
     by_order (fhdr_length_of f + 6) (length f) (λ l. l)
     (λ l.
-    let none : port_of_of f ≡ Absent = port_absent f l in
+    let none : port_of f ≡ Absent = port_absent f l in
     apart (cc))
 
 -- a list between what stands before and after it
@@ -141,7 +141,7 @@ module _ (nwk app : List ℕ) (d : DataParts) (cs : List Command) (body f : List
   unfolding g
   g_decrypted = ap (λ (r : Result). r.bytes) (opened_decrypted nwk app f d.fcnt is_data)
 
-  g_parts : g ≡ data_header d (bytes_all cs) ++ (body_of d.port (bytes_all cs) body ++ mic_of_of f)
+  g_parts : g ≡ data_header d (bytes_all cs) ++ (body_of d.port (bytes_all cs) body ++ mic_of f)
   unfolding g
   g_parts = ap (λ (r : Result). r.bytes) b.opens.opens
 
@@ -189,7 +189,7 @@ module _ (nwk app : List ℕ) (d : DataParts) (cs : List Command) (body f : List
   -- ---- the payload
 
   -- none on another port
-  other_port : NotPort0 d.port → NotPort0 (port_of_of f)
+  other_port : NotPort0 d.port → NotPort0 (port_of f)
   other_port p = subst (λ (t : FPort). NotPort0 t) (sym b.back.port) p
 
   -- on port 0 those that were given
@@ -209,7 +209,7 @@ module _ (nwk app : List ℕ) (d : DataParts) (cs : List Command) (body f : List
     header_long : length (data_header d (bytes_all cs)) ≡ header_end_of f
     header_long = sym (ap length b.back.header_back) ∙ length-header f
 
-    on_0 : port_of_of f ≡ Port 0
+    on_0 : port_of f ≡ Port 0
     on_0 = b.back.port ∙ zero
 
     held : payload_of f ≡ MacCommands (payload_start_of f) (payload_end_of f)
@@ -227,13 +227,13 @@ module _ (nwk app : List ℕ) (d : DataParts) (cs : List Command) (body f : List
         let long : payload_end_of f - header_end_of f ≡ length (bytes_all cs) = sym (length-payload f) ∙ payload_long in
         let start : header_end_of f ≡ payload_start_of f = omega arith in
         let end : payload_end_of f ≡ payload_start_of f + length (bytes_all cs) = omega arith in
-        let parts : g ≡ data_header d (bytes_all cs) ++ (bytes_all cs ++ mic_of_of f) =
-        g_parts ∙ ap (λ (l : List ℕ). data_header d (bytes_all cs) ++ (l ++ mic_of_of f)) as_body in
-        let all : length g ≡ length (data_header d (bytes_all cs)) + length (bytes_all cs ++ mic_of_of f) =
-        ap length parts ∙ length-append (data_header d (bytes_all cs)) (bytes_all cs ++ mic_of_of f) in
+        let parts : g ≡ data_header d (bytes_all cs) ++ (bytes_all cs ++ mic_of f) =
+        g_parts ∙ ap (λ (l : List ℕ). data_header d (bytes_all cs) ++ (l ++ mic_of f)) as_body in
+        let all : length g ≡ length (data_header d (bytes_all cs)) + length (bytes_all cs ++ mic_of f) =
+        ap length parts ∙ length-append (data_header d (bytes_all cs)) (bytes_all cs ++ mic_of f) in
         let there : part (payload_start_of f) (length (bytes_all cs)) g ≡ bytes_all cs =
         ap₂ (λ (k : ℕ) (l : List ℕ). part k (length (bytes_all cs)) l) (sym (header_long ∙ start)) parts
-        ∙ between (data_header d (bytes_all cs)) (bytes_all cs) (mic_of_of f) in
+        ∙ between (data_header d (bytes_all cs)) (bytes_all cs) (mic_of f) in
         ap (λ (p : FrmPayload). list_at (uplink_of (mtype f)) (take (commands_to p (length f - 4)) g) (commands_from p (length f - 4))) held
         ∙ ap (λ (u : Bool). list_at u (take (payload_end_of f) g) (payload_start_of f)) upward
         ∙ stands d.uplink cs g (payload_start_of f) (payload_end_of f) sent (omega (arith, header_long)) end there

@@ -7,7 +7,7 @@ use mathlib.Core.List.{List, ◌++◌}
 use Prim.Native.Nat.{ℕ}
 use native.Mathlib.Omega.{arith}
 use Rattle.base.specs.Bytes.{pick}
-use Rattle.frame.specs.Layout.{fcnt, header, payload, mic_of_of}
+use Rattle.frame.specs.Layout.{fcnt, header, payload, mic_of}
 use Rattle.frame.specs.Conditions.{IsData}
 use Rattle.frame.proofs.ReadingLaws.{data_read}
 use Rattle.frame.specs.ReadingNumbers.{on_data}
@@ -33,12 +33,12 @@ module _ (nwk app : List ℕ) (d : DataParts) (commands body f : List ℕ) (b : 
   whole_counter = omega (arith, b.count)
 
   opened_back : data_opened (given_key nwk) (given_key app) d.fcnt f
-      ≡ outcome Opened (data_header d commands ++ (body_of d.port commands body ++ mic_of_of f))
+      ≡ outcome Opened (data_header d commands ++ (body_of d.port commands body ++ mic_of f))
   opened_back =
       opened_both nwk app f d.fcnt is_data
-      ∙ ap (λ (c : ℕ). outcome Opened (header f ++ (crypted (frame_key f nwk app) (header f) c (payload f) ++ mic_of_of f)))
+      ∙ ap (λ (c : ℕ). outcome Opened (header f ++ (crypted (frame_key f nwk app) (header f) c (payload f) ++ mic_of f)))
       whole_counter
-      ∙ ap₂ (λ (s t : List ℕ). outcome Opened (s ++ (t ++ mic_of_of f))) b.header_back b.payload_back
+      ∙ ap₂ (λ (s t : List ℕ). outcome Opened (s ++ (t ++ mic_of f))) b.header_back b.payload_back
 
   -- where the MIC is right, the checked opening is the plain one
   checked_back : data_opened_checked nwk (given_key app) d.fcnt f ≡ data_opened (given_key nwk) (given_key app) d.fcnt f
@@ -47,7 +47,7 @@ module _ (nwk app : List ℕ) (d : DataParts) (commands body f : List ℕ) (b : 
       let under = opened_under (frame_key f (given_key nwk) (given_key app)) d.fcnt f in
       ap (on_data (λ x. opened_tested nwk (given_key app) d.fcnt f) (unopened f)) b.reads
       ∙ ap (λ (t : Bool). pick t under (unopened f (refused 5)))
-      (test_of_same (mic_of_of f) (data_mic_of nwk (covered f) d.fcnt) b.mic_back)
+      (test_of_same (mic_of f) (data_mic_of nwk (covered f) d.fcnt) b.mic_back)
       ∙ sym (ap (on_data (λ x. under) (unopened f)) b.reads)
 
   -- of what `data_back` gives

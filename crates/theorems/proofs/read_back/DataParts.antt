@@ -12,8 +12,8 @@ use lib.ListN.{length, take, length-append}
 use lib.Seq.{take_at, drop_at, get_or-append-add, get_or-append_seam}
 use Rattle.base.specs.Bytes.{pick, at, part}
 use Rattle.base.proofs.Tab.{tab-at}
-use Rattle.frame.specs.Layout.{mtype, major, dev_addr_of, fctrl, fcnt, fhdr_length_of, fport, header_end_of, header, payload, payload_start_of, payload_end_of, mic_of_of}
-use Rattle.frame.specs.Reading.{port_of_of, held_by_of, payload_of, data_of, read_of}
+use Rattle.frame.specs.Layout.{mtype, major, dev_addr_of, fctrl, fcnt, fhdr_length_of, fport, header_end_of, header, payload, payload_start_of, payload_end_of, mic_of}
+use Rattle.frame.specs.Reading.{port_of, held_by_of, payload_of, data_of, read_of}
 use Rattle.frame.specs.Conditions.{IsData}
 use Rattle.frame_build.specs.DataBuilding.{is_absent, mhdr_of, port_bytes, fopts_of, body_of, data_header, data_refusal_of}
 use Rattle.frame_build.specs.DataFrames.{data_frame_of}
@@ -205,7 +205,7 @@ module _ (nwk app : List ℕ) (d : DataParts) (four : length d.dev_addr ≡ 4) (
       (body_of d.port commands body)
 
   -- the MIC is that of all the bytes ahead of it
-  pub back_mic : mic_of_of f ≡ data_mic_of nwk (take (length f - 4) f) d.fcnt
+  pub back_mic : mic_of f ≡ data_mic_of nwk (take (length f - 4) f) d.fcnt
   unfolding sealed h p
   back_mic =
       let e : length f - 4 ≡ length (enciphered nwk app d.fcnt h p) =
@@ -216,7 +216,7 @@ module _ (nwk app : List ℕ) (d : DataParts) (four : length d.dev_addr ≡ 4) (
 
   -- ---- the port
 
-  back_port_byte : (q : ℕ) → d.port ≡ Port q → port_of_of f ≡ Port q
+  back_port_byte : (q : ℕ) → d.port ≡ Port q → port_of f ≡ Port q
   unfolding n p
   back_port_byte q e =
       let one : length (port_bytes d.port) ≡ 1 = ap (λ (t : FPort). length (port_bytes t)) e in
@@ -231,7 +231,7 @@ module _ (nwk app : List ℕ) (d : DataParts) (four : length d.dev_addr ≡ 4) (
       ∙ get_or-append_seam (fopts_of d.port commands) q (c ++ m) 0 in
       port_there f (omega (arith, f_long, h_long, fhdr)) ∙ ap Port v
 
-  back_no_port : d.port ≡ Absent → port_of_of f ≡ Absent
+  back_no_port : d.port ≡ Absent → port_of f ≡ Absent
   unfolding p
   back_no_port e =
       let zero : length (port_bytes d.port) ≡ 0 = ap (λ (t : FPort). length (port_bytes t)) e in
@@ -239,12 +239,12 @@ module _ (nwk app : List ℕ) (d : DataParts) (four : length d.dev_addr ≡ 4) (
       let same : length (body_of d.port commands body) ≡ length body = ap (λ (t : FPort). length (body_of t commands body)) e in
       port_absent f (omega (arith, f_long, h_long, fhdr))
 
-  by_port : (t : FPort) → d.port ≡ t → port_of_of f ≡ t
+  by_port : (t : FPort) → d.port ≡ t → port_of f ≡ t
   by_port Absent e = back_no_port e
   by_port (Port q) e = back_port_byte q e
 
   -- it is reported as it was given, whatever stands behind it
-  pub back_port : port_of_of f ≡ d.port
+  pub back_port : port_of f ≡ d.port
   back_port = by_port d.port refl
 
   pub back_held : payload_of f ≡ held_by_of d.port (payload_start_of f) (payload_end_of f)

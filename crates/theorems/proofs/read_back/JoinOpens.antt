@@ -8,7 +8,7 @@ use Prim.Native.Nat.{ℕ}
 use Rattle.base.specs.Bytes.{pick}
 use Rattle.frame.specs.Conditions.{IsJoinAccept}
 use Rattle.frame.specs.JoinFields.{request_fields_of, no_request_of, accept_fields_of, no_accept_of, join_accept_fields_of}
-use Rattle.frame.specs.Layout.{mic_of_of}
+use Rattle.frame.specs.Layout.{mic_of}
 use Rattle.frame.specs.Reading.{read_of}
 use Rattle.frame.specs.ReadingNumbers.{on_request, on_accept}
 use Rattle.frame.specs.Refusals.{refused}
@@ -47,7 +47,7 @@ module _ (key : List ℕ) (j : JoinAcceptParts) (channels f : List ℕ) (b : Acc
   opened =
       ap (on_accept (λ n. accept_tested key f) (unopened f)) b.reads
       ∙ ap (λ (t : Bool). pick t (outcome Opened g) (unopened f (refused 5)))
-      (test_of_same (mic_of_of g) (join_mic key (covered g)) b.mic)
+      (test_of_same (mic_of g) (join_mic key (covered g)) b.mic)
 
   left : g ≡ (accept_opened_checked key f).bytes
   left = sym (ap (λ (r : Result). r.bytes) opened)

@@ -16,7 +16,7 @@ use borrow.Author.Tests.{ltb-false}
 use Rattle.base.proofs.Cases.{by_bool}
 use Rattle.base.proofs.Parts.{bytes_append}
 use Rattle.base.proofs.Tab.{tab-at, tab_ext}
-use Rattle.frame.specs.Layout.{mtype, major, mic_of_of}
+use Rattle.frame.specs.Layout.{mtype, major, mic_of}
 use Rattle.frame.specs.Reading.{read_of}
 use Rattle.frame.specs.JoinFields.{request_fields_of, accept_fields_of, cf_list_of, frequencies_of, masks_of}
 use Rattle.frame_build.specs.JoinBuilding.{accept_head_of, cf_list_bytes_of, too_high_of, join_accept_body, join_accept_length, join_accept_refusal_of, join_request_body}
@@ -37,7 +37,7 @@ use Rattle.frame.proofs.ReadingLaws.{reads_request, reads_accept}
 use Rattle.frame_security.proofs.SecurityLaws.{join_mic_long, join_mic_byte}
 
 -- the MIC of a signed message is that of all the bytes ahead of it
-pub signed-mic : (key msg : List ℕ) → mic_of_of (signed key msg) ≡ join_mic key (take (length (signed key msg) - 4) (signed key msg))
+pub signed-mic : (key msg : List ℕ) → mic_of (signed key msg) ≡ join_mic key (take (length (signed key msg) - 4) (signed key msg))
 unfolding signed
 signed-mic key msg =
     let e : length msg ≡ length (msg ++ join_mic key msg) - 4 =
@@ -213,7 +213,7 @@ pub record RequestBack (key : List ℕ) (j : JoinRequestParts) (f : List ℕ) : 
   pub reads : read_of f ≡ JoinRequest
   pub fields : request_fields_of f
       ≡ request_record j.app_eui j.dev_eui j.dev_nonce (join_mic key (join_request_body j))
-  pub mic : mic_of_of f ≡ join_mic key (take (length f - 4) f)
+  pub mic : mic_of f ≡ join_mic key (take (length f - 4) f)
 
 pub join_request_back : (key : List ℕ) (j : JoinRequestParts) → RequestGiven j → RequestBack key j (join_request_of key j)
 join_request_back key j g =
@@ -227,7 +227,7 @@ join_request_back key j g =
 pub record AcceptBack (key : List ℕ) (j : JoinAcceptParts) (channels f g : List ℕ) : Type 0 where
   pub reads : read_of f ≡ JoinAccept (join_accept_length j)
   pub clear : g ≡ signed key (join_accept_body j channels)
-  pub mic : mic_of_of g ≡ join_mic key (take (length g - 4) g)
+  pub mic : mic_of g ≡ join_mic key (take (length g - 4) g)
   pub clear_reads : read_of g ≡ JoinAccept (join_accept_length j)
   pub fields : accept_fields_of g ≡ built_fields j channels
 
@@ -239,7 +239,7 @@ join_accept_back key j g channels room e =
       reads = accept_reads key j hn hi ha channels;
       clear = c;
       mic =
-          ap mic_of_of c
+          ap mic_of c
           ∙ signed-mic key (join_accept_body j channels)
           ∙ ap (λ (g : List ℕ). join_mic key (take (length g - 4) g)) (sym c);
       clear_reads = ap read_of c ∙ clear_reads key j hn hi ha channels;

@@ -12,7 +12,7 @@ use Rattle.base.specs.Bytes.{at, part}
 use Rattle.base.proofs.Cases.{by_bool, by_order}
 use Rattle.base.proofs.Lent.{part_long, put_before, put_after}
 use Rattle.frame.specs.Conditions.{IsData}
-use Rattle.frame.specs.Layout.{fcnt, header, header_end_of, payload, payload_end_of, mic_of_of}
+use Rattle.frame.specs.Layout.{fcnt, header, header_end_of, payload, payload_end_of, mic_of}
 use Rattle.frame.specs.Refusals.{refused}
 use Rattle.frame.specs.declared.refusals.Refusal.{Refusal}
 use Rattle.frame.specs.ReadingNumbers.{on_data}
@@ -53,7 +53,7 @@ module _ (key f : List ℕ) (counter : ℕ) (h : IsData f) where
   decrypted-header = put_before (header_end_of f) (payload_end_of f) f clear order inside clear_fits (header_end_of f) (omega arith)
 
   -- and so is the MIC
-  pub decrypted-mic : drop (payload_end_of f) (decrypted key counter f) ≡ mic_of_of f
+  pub decrypted-mic : drop (payload_end_of f) (decrypted key counter f) ≡ mic_of f
   unfolding decrypted crypted_part
   decrypted-mic = put_after (header_end_of f) (payload_end_of f) f clear order inside clear_fits
 

@@ -10,7 +10,7 @@ use lib.ListN.{length}
 use lib.Seq.{take-take}
 use Rattle.base.specs.Bytes.{pick}
 use Rattle.frame.specs.Conditions.{IsData}
-use Rattle.frame.specs.Layout.{fcnt, header, header_end_of, payload, mic_of_of}
+use Rattle.frame.specs.Layout.{fcnt, header, header_end_of, payload, mic_of}
 use Rattle.frame.specs.ReadingNumbers.{on_data}
 use Rattle.frame.specs.declared.keys.MaybeKey.{MaybeKey}
 use Rattle.frame.proofs.LayoutLaws.{placed}
@@ -48,10 +48,10 @@ module _ (nwk app f : List ℕ) (counter : ℕ) (h : IsData f) where
 
   -- which is header, clear payload, MIC
   pub opened_both : data_opened (given_key nwk) (given_key app) counter f
-      ≡ outcome Opened (header f ++ (clear_payload ++ mic_of_of f))
+      ≡ outcome Opened (header f ++ (clear_payload ++ mic_of f))
   unfolding decrypted crypted_part
   opened_both =
       opened_decrypted
       ∙ ap (outcome Opened)
-      (append_assoc (header f) (crypted key f (full_counter_of counter (fcnt f)) (payload f)) (mic_of_of f)
-      ∙ ap (λ (s : List ℕ). header f ++ (s ++ mic_of_of f)) clear_is)
+      (append_assoc (header f) (crypted key f (full_counter_of counter (fcnt f)) (payload f)) (mic_of f)
+      ∙ ap (λ (s : List ℕ). header f ++ (s ++ mic_of f)) clear_is)

@@ -11,7 +11,7 @@ use lib.ListN.{length}
 use borrow.Author.Tests.{ltb-false, le-ltb, ne_eqb}
 use Rattle.base.specs.Bytes.{pick, at}
 use Rattle.frame.specs.Conditions.{IsData}
-use Rattle.frame.specs.Layout.{fcnt, payload, mic_of_of}
+use Rattle.frame.specs.Layout.{fcnt, payload, mic_of}
 use Rattle.frame.specs.Refusals.{refused, not_refused}
 use Rattle.frame.specs.declared.refusals.Refusal.{Refusal}
 use Rattle.frame_security.specs.Mic.{same_bytes}
@@ -73,7 +73,7 @@ module _ (f nwk app : List ℕ) (counter : ℕ) (h : Opened → Refusal)
   unfolding open_data open_checked_of
   opened_gives {cs} new-14 new-5 g =
       let low = eqb (counter % 65536) (fcnt f) in
-      let right = same_bytes (data_mic_of nwk (covered f) counter) (mic_of_of f) in
+      let right = same_bytes (data_mic_of nwk (covered f) counter) (mic_of f) in
       let opened = accepted_opening (opened_of f nwk app counter) in
       let path : h (open_data f nwk app counter) ≡ pick low (pick right (h opened) (refused 5)) (refused 14) =
       through h low (pick right opened (refused_opening (refused 5))) (refused_opening (refused 14))
@@ -81,7 +81,7 @@ module _ (f nwk app : List ℕ) (counter : ℕ) (h : Opened → Refusal)
       ∙ ap₂ (λ (r s : Refusal). pick low (pick right (h opened) r) s) (keeps 4) (keeps 13) in
       subst (λ (r : Refusal). Gives refused (open_then nwk counter f cs) r) (sym path)
       (past new-14 low (if_unless low (if_equal (counter % 65536) (fcnt f)))
-      (past new-5 right (if_unless right (if_right (mic_of_of f) (data_mic_of nwk (covered f) counter))) g))
+      (past new-5 right (if_unless right (if_right (mic_of f) (data_mic_of nwk (covered f) counter))) g))
 
 module _ (f nwk app : List ℕ) (counter : ℕ) where
   -- reading, 14, 5

@@ -27,7 +27,7 @@ use Rattle.frame.specs.declared.parser.Reading.{Reading}
 use Rattle.frame.specs.declared.parser.Reading.TheVariants.{JoinRequest, JoinAccept, Data, Refused as NotRead}
 use Rattle.frame.specs.declared.refusals.Refusal.{Refusal}
 use Rattle.frame.proofs.ReadingLaws.{Says, answers}
-use Rattle.mac_commands.specs.Commands.{raw_of_of, fields_as, row_at, values_of_of, raw_step_at, step_of, step_at, row_bytes, put_as, put_in, written_as, written_in, command_written, command_in, fields_written, fields_in}
+use Rattle.mac_commands.specs.Commands.{raw_of, fields_as, row_at, values_of, raw_step_at, step_of, step_at, row_bytes, put_as, put_in, written_as, written_in, command_written, command_in, fields_written, fields_in}
 use Rattle.mac_commands.specs.InFrame.{lists_of, in_frame_of}
 use Rattle.mac_commands.specs.Layout.{Piece, fits, count_in_row, width_at, number_of, downs, ups, row, row_of, known, size_of}
 use Rattle.mac_commands.specs.declared.in_frame.CommandLists.{CommandLists}
@@ -361,8 +361,8 @@ writes {cs} {w} next g =
 
 -- a command: 18, 7
 pub command_writes : (c : Command) (n i : ℕ)
-    → Writes (row_conditions (row_at c) (values_of_of c) n i) (i + (1 + size_of (row_at c))) (command_written c n i)
-command_writes c n i = writes (i + (1 + size_of (row_at c))) (row_gives (row_at c) (values_of_of c) n i)
+    → Writes (row_conditions (row_at c) (values_of c) n i) (i + (1 + size_of (row_at c))) (command_written c n i)
+command_writes c n i = writes (i + (1 + size_of (row_at c))) (row_gives (row_at c) (values_of c) n i)
 
 -- values by direction and identifier: 16, 18, 7
 pub fields_write : (up : Bool) (id : ℕ) (xs : List ℕ) (n i : ℕ)
@@ -372,17 +372,17 @@ fields_write up id xs n i = writes (i + (1 + size_of (row_of up id))) (fields_gi
 -- ---- the numbers of them and what is written, written out
 
 module _ (c : Command) (n i : ℕ) where
-  pub command_18 : Exactly (command_written c n i ≡ Unwritten (refused 18)) (Unfit (row_at c) (values_of_of c))
+  pub command_18 : Exactly (command_written c n i ≡ Unwritten (refused 18)) (Unfit (row_at c) (values_of c))
   command_18 = (command_writes c n i).refuses 18 (omega arith)
 
   pub command_7 : Exactly (command_written c n i ≡ Unwritten (refused 7))
-      ((Unfit (row_at c) (values_of_of c) → ⊥) × NoRoom (row_at c) n i)
+      ((Unfit (row_at c) (values_of c) → ⊥) × NoRoom (row_at c) n i)
   command_7 = (command_writes c n i).refuses 7 (omega arith)
 
   pub command_written_lem : (m : ℕ)
       → Exactly (command_written c n i ≡ Upto m)
-      ((m ≡ i + (1 + size_of (row_at c))) × ((Unfit (row_at c) (values_of_of c) → ⊥) × (NoRoom (row_at c) n i → ⊥)))
-  command_written_lem m = with_none (row_conditions (row_at c) (values_of_of c) n i) tt ((command_writes c n i).writes m)
+      ((m ≡ i + (1 + size_of (row_at c))) × ((Unfit (row_at c) (values_of c) → ⊥) × (NoRoom (row_at c) n i → ⊥)))
+  command_written_lem m = with_none (row_conditions (row_at c) (values_of c) n i) tt ((command_writes c n i).writes m)
 
 module _ (up : Bool) (id : ℕ) (xs : List ℕ) (n i : ℕ) where
   pub fields_16 : Exactly (fields_written up id xs n i ≡ Unwritten (refused 16)) (Unknown id)
@@ -403,8 +403,8 @@ module _ (up : Bool) (id : ℕ) (xs : List ℕ) (n i : ℕ) where
 
 -- ---- 18 of DevStatusAns: the margin alone, of a battery that is a byte
 
-pub margin_outside : (m : ℤ) → 64 ≤ raw_of_of m → OutsideMargin m
-unfolding raw_of_of
+pub margin_outside : (m : ℤ) → 64 ≤ raw_of m → OutsideMargin m
+unfolding raw_of
 margin_outside (pos m) h = by (ltb m 32) refl h
   where
     by : (t : Bool) → ltb m 32 ≡ t → 64 ≤ pick t m 64 → OutsideMargin (pos m)
@@ -416,17 +416,17 @@ margin_outside (negsuc k) h = by (ltb k 32) refl h
     by true e l = absurd (omega arith)
     by false e l = let s : 32 ≤ k = ltb-false k 32 e in under (lt-ltb 31 k (omega arith))
 
-pub outside_margin : (m : ℤ) → OutsideMargin m → 64 ≤ raw_of_of m
-outside_margin m (under e) = let s : 64 ≡ raw_of_of m = margins.under m e in omega arith
-outside_margin m (over e) = let s : 64 ≡ raw_of_of m = margins.over m e in omega arith
+pub outside_margin : (m : ℤ) → OutsideMargin m → 64 ≤ raw_of m
+outside_margin m (under e) = let s : 64 ≡ raw_of m = margins.under m e in omega arith
+outside_margin m (over e) = let s : 64 ≡ raw_of m = margins.over m e in omega arith
 
-status_unfit : (battery : ℕ) (m : ℤ) → battery < 256 → Unfit 13 (battery ∷ raw_of_of m ∷ 0 ∷ 0 ∷ 0 ∷ []) → OutsideMargin m
+status_unfit : (battery : ℕ) (m : ℤ) → battery < 256 → Unfit 13 (battery ∷ raw_of m ∷ 0 ∷ 0 ∷ 0 ∷ []) → OutsideMargin m
 unfolding row downs ups count_in_row width_at
 status_unfit battery m h (unfit zero l g) = absurd (omega arith)
 status_unfit battery m h (unfit (suc zero) l g) = margin_outside m g
 status_unfit battery m h (unfit (suc (suc k)) l g) = absurd (omega arith)
 
-unfit_status : (battery : ℕ) (m : ℤ) → OutsideMargin m → Unfit 13 (battery ∷ raw_of_of m ∷ 0 ∷ 0 ∷ 0 ∷ [])
+unfit_status : (battery : ℕ) (m : ℤ) → OutsideMargin m → Unfit 13 (battery ∷ raw_of m ∷ 0 ∷ 0 ∷ 0 ∷ [])
 unfolding row downs ups count_in_row width_at
 unfit_status battery m o = unfit 1 (omega arith) (outside_margin m o)
 
@@ -456,7 +456,7 @@ row_kept r xs l i q e = by (fits (row r) xs) (leb (i + (1 + size_of r)) (length 
 
 pub command_kept : (c : Command) (l : List ℕ) (i : ℕ) (q : Refusal) → command_written c (length l) i ≡ Unwritten q
     → command_in c l i ≡ l
-command_kept c l i q e = row_kept (row_at c) (values_of_of c) l i q e
+command_kept c l i q e = row_kept (row_at c) (values_of c) l i q e
 
 pub fields_kept : (up : Bool) (id : ℕ) (xs l : List ℕ) (i : ℕ) (q : Refusal) → fields_written up id xs (length l) i ≡ Unwritten q
     → fields_in up id xs l i ≡ l

@@ -13,11 +13,11 @@ use borrow.Author.Tests.{ltb-true, ltb-false, lt-ltb, le-ltb}
 use Rattle.base.specs.Bytes.{pick, at}
 use Rattle.base.proofs.Cases.{by_bool, by_order, by_equal}
 use Rattle.frame.specs.Refusals.{refused}
-use Rattle.mac_commands.specs.Commands.{raw_of_of, put_as, written_as, fields_written}
+use Rattle.mac_commands.specs.Commands.{raw_of, put_as, written_as, fields_written}
 use Rattle.mac_commands.specs.Layout.{fits, count_in_row, width_at, downs, ups, row, row_of, known, size_of}
 use Rattle.mac_commands.specs.declared.maccommandcreator.Written.TheVariants.{Upto, Refused as Unwritten}
 use Rattle.mac_commands.proofs.TableLaws.{count_most, width_most}
-use Rattle.command_numbers.specs.Numbers.{unsigned_of_of, id_of_number, bits_of_number, number, id_given, values_given}
+use Rattle.command_numbers.specs.Numbers.{unsigned_of, id_of_number, bits_of_number, number, id_given, values_given}
 use Rattle.command_numbers.proofs.NumberLaws.{status_bits, other_bits, down_bits}
 use Rattle.theorems.specs.Exactly.{Exactly}
 use Rattle.theorems.specs.CommandConditions.{Unknown, Unfit, unfit, NoRoom, Writes, written_refusal, written_of}
@@ -33,15 +33,15 @@ chained x y = record { there = λ a. y.there (x.there a); back = λ c. x.back (y
 -- ---- the identifier
 
 id_small : (m : ℕ) → m < 256 → id_of_number (pos m) ≡ m
-unfolding id_of_number unsigned_of_of
+unfolding id_of_number unsigned_of
 id_small m h = simp (lt-ltb m 4294967296 (omega arith), lt-ltb m 256 h)
 
 id_large : (m : ℕ) → 256 ≤ m → id_of_number (pos m) ≡ 0
-unfolding id_of_number unsigned_of_of
+unfolding id_of_number unsigned_of
 id_large m h = by_bool (ltb m 4294967296) (λ t. simp (t, le-ltb m 256 h)) (λ t. simp t)
 
 id_negative : (k : ℕ) → id_of_number (negsuc k) ≡ 0
-unfolding id_of_number unsigned_of_of
+unfolding id_of_number unsigned_of
 id_negative k = refl
 
 unknown_there : (z : ℤ) → Unknown (id_of_number z) → UnknownNumber z
@@ -79,8 +79,8 @@ six_back z e = ap id_of_number e ∙ id_small 6 (omega arith)
 
 -- ---- a value
 
-bits_there : (w : ℕ) (z : ℤ) → 2 ^ w ≤ 4294967295 → 2 ^ w ≤ unsigned_of_of z → OutsideBits w z
-unfolding unsigned_of_of
+bits_there : (w : ℕ) (z : ℤ) → 2 ^ w ≤ 4294967295 → 2 ^ w ≤ unsigned_of z → OutsideBits w z
+unfolding unsigned_of
 bits_there w (pos m) b h = by (ltb m 4294967296) refl h
   where
     by : (t : Bool) → ltb m 4294967296 ≡ t → 2 ^ w ≤ pick t m 4294967295 → OutsideBits w (pos m)
@@ -88,8 +88,8 @@ bits_there w (pos m) b h = by (ltb m 4294967296) refl h
     by false e l = let g : 4294967296 ≤ m = ltb-false m 4294967296 e in large (le-ltb m (2 ^ w) (omega arith))
 bits_there w (negsuc k) b h = negative refl
 
-bits_back : (w : ℕ) (z : ℤ) → 2 ^ w ≤ 4294967295 → OutsideBits w z → 2 ^ w ≤ unsigned_of_of z
-unfolding unsigned_of_of
+bits_back : (w : ℕ) (z : ℤ) → 2 ^ w ≤ 4294967295 → OutsideBits w z → 2 ^ w ≤ unsigned_of z
+unfolding unsigned_of
 bits_back w (pos m) b (negative e) = let g : m < 0 = ltb-true m 0 e in absurd (omega arith)
 bits_back w (pos m) b (large e) = by (ltb m 4294967296)
   where
@@ -100,12 +100,12 @@ bits_back w (negsuc k) b o = b
 
 -- ---- the values that six numbers give
 
-plain_second : (up : Bool) (id : ℕ) (z : ℤ) → (up ≡ true → id ≡ 6 → ⊥) → bits_of_number up id z ≡ unsigned_of_of z
+plain_second : (up : Bool) (id : ℕ) (z : ℤ) → (up ≡ true → id ≡ 6 → ⊥) → bits_of_number up id z ≡ unsigned_of z
 plain_second true id z n = sym (other_bits true id z (n refl))
 plain_second false id z n = sym (down_bits false id z refl)
 
 value_at : (up : Bool) (zs : List ℤ) (k : ℕ) → k < 5 → (up ≡ true → id_given zs ≡ 6 → k ≡ 1 → ⊥)
-    → at (values_given up zs) k ≡ unsigned_of_of (number zs (suc k))
+    → at (values_given up zs) k ≡ unsigned_of (number zs (suc k))
 value_at up zs zero l n = refl
 value_at up zs (suc zero) l n = plain_second up (id_given zs) (number zs 2) (λ u e. n u e refl)
 value_at up zs (suc (suc zero)) l n = refl
@@ -143,7 +143,7 @@ module _ (up : Bool) (zs : List ℤ) where
     its_row : r ≡ 13
     its_row = margin_row up (id_given zs) u e
 
-    its_value : at xs 1 ≡ raw_of_of (number zs 2)
+    its_value : at xs 1 ≡ raw_of (number zs 2)
     its_value = sym (status_bits up (id_given zs) (number zs 2) u e)
 
     its_bits : 2 ^ width_at (row r) 1 ≡ 64

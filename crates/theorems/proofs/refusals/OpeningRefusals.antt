@@ -14,8 +14,8 @@ use Rattle.base.specs.Bytes.{pick}
 use Rattle.base.proofs.Cases.{by_bool, by_order}
 use Rattle.frame.specs.Conditions.{IsJoinAccept, IsData}
 use Rattle.frame.specs.JoinFields.{request_fields_of, no_request_of, join_request_fields_of, accept_fields_of, no_accept_of, join_accept_fields_of}
-use Rattle.frame.specs.Layout.{fport, payload, mic_of_of}
-use Rattle.frame.specs.Reading.{read_of, port_of_of}
+use Rattle.frame.specs.Layout.{fport, payload, mic_of}
+use Rattle.frame.specs.Reading.{read_of, port_of}
 use Rattle.frame.specs.Refusals.{refused, not_refused}
 use Rattle.frame.specs.declared.refusals.Refusal.{Refusal}
 use Rattle.frame.specs.declared.join_fields.JoinAcceptFields.{JoinAcceptFields}
@@ -58,7 +58,7 @@ module _ (f : List ℕ) (h : IsData f) (nwk app : MaybeKey) where
   missing_empty none (other p q n some m) = absurd (omega arith)
 
   -- with one it is the key that the port selects
-  missing_port : port_of_of f ≡ Port (fport f) → 0 < length (payload f) → KeyMissing f nwk app
+  missing_port : port_of f ≡ Port (fport f) → 0 < length (payload f) → KeyMissing f nwk app
       → (pick (eqb (fport f) 0) nwk app).given ≡ false
   missing_port e some (empty none m) = absurd (omega arith)
   missing_port e some (zero q m) =
@@ -66,7 +66,7 @@ module _ (f : List ℕ) (h : IsData f) (nwk app : MaybeKey) where
   missing_port e some (other p q n l m) =
       ap (λ (b : Bool). (pick b nwk app).given) (ne_eqb (fport f) 0 (λ z. n (cc))) ∙ m
 
-  port_missing : port_of_of f ≡ Port (fport f) → 0 < length (payload f) → (pick (eqb (fport f) 0) nwk app).given ≡ false
+  port_missing : port_of f ≡ Port (fport f) → 0 < length (payload f) → (pick (eqb (fport f) 0) nwk app).given ≡ false
       → KeyMissing f nwk app
   port_missing e some m =
       by_bool (eqb (fport f) 0)
@@ -115,9 +115,9 @@ tested_gives : (nwk : List ℕ) (app : MaybeKey) (counter : ℕ) (f : List ℕ) 
     → Gives opening_of (checked_conditions nwk app counter f) (opened_tested nwk app counter f).answer
 unfolding opened_tested data_passes
 tested_gives nwk app counter f h =
-    let right = same_bytes (mic_of_of f) (data_mic_of nwk (covered f) counter) in
+    let right = same_bytes (mic_of f) (data_mic_of nwk (covered f) counter) in
     rw (through (λ (r : Result). r.answer) right (opened_under (frame_key f (given_key nwk) app) counter f) (unopened f (refused 5)))
-    (passed opening_of opening_refusal told_opening tt right (if_unless right (if_right (mic_of_of f) (data_mic_of nwk (covered f) counter)))
+    (passed opening_of opening_refusal told_opening tt right (if_unless right (if_right (mic_of f) (data_mic_of nwk (covered f) counter)))
     (key_gives (given_key nwk) app counter f h))
 
 -- a join-accept, past the test of its clear MIC
@@ -125,9 +125,9 @@ accept_gives : (key f : List ℕ) → Gives opening_of (checked_accept_condition
 unfolding accept_tested join_passes
 accept_gives key f =
     let clear = accept_decrypted key f in
-    let right = same_bytes (mic_of_of clear) (join_mic key (covered clear)) in
+    let right = same_bytes (mic_of clear) (join_mic key (covered clear)) in
     rw (through (λ (r : Result). r.answer) right (outcome Opened clear) (unopened f (refused 5)))
-    (passed opening_of opening_refusal told_opening tt right (if_unless right (if_right (mic_of_of clear) (join_mic key (covered clear))))
+    (passed opening_of opening_refusal told_opening tt right (if_unless right (if_right (mic_of clear) (join_mic key (covered clear))))
     (no_more opening_of opening_refusal told_opening))
 
 -- plain decryption of a data frame: reading, 6
@@ -254,15 +254,15 @@ module _ (k : Needs) (f s u : List ℕ) where
 
 pub request_test : (key f : List ℕ) → Tests join_request f (RightJoinMic key f) (join_request_test key f)
 unfolding join_request_test join_passes
-request_test key f = tests join_request f (mic_of_of f) (join_mic key (covered f))
+request_test key f = tests join_request f (mic_of f) (join_mic key (covered f))
 
 pub accept_test : (key f : List ℕ) → Tests join_accept f (RightJoinMic key f) (join_accept_test key f)
 unfolding join_accept_test join_passes
-accept_test key f = tests join_accept f (mic_of_of f) (join_mic key (covered f))
+accept_test key f = tests join_accept f (mic_of f) (join_mic key (covered f))
 
 pub data_test : (key : List ℕ) (counter : ℕ) (f : List ℕ) → Tests data_frame f (RightDataMic key counter f) (data_test_of key counter f)
 unfolding data_test_of data_passes
-data_test key counter f = tests data_frame f (mic_of_of f) (data_mic_of key (covered f) counter)
+data_test key counter f = tests data_frame f (mic_of f) (data_mic_of key (covered f) counter)
 
 -- ---- calls with a refusal beside their values: reading alone
 

@@ -11,7 +11,7 @@ use lib.ListN.{length}
 use Rattle.base.proofs.Cases.{by_bool, by_equal}
 use Rattle.base.proofs.Tested.{both, both_left, both_right}
 use Rattle.frame.specs.Reading.{read_of}
-use Rattle.frame.specs.ReadingNumbers.{number_of, place_of, plain_values_of, data_values_of, values_of_of}
+use Rattle.frame.specs.ReadingNumbers.{number_of, place_of, plain_values_of, data_values_of, values_of}
 use Rattle.frame.specs.Refusals.{refusal, refused}
 use Rattle.frame.specs.declared.refusals.Refusal.{Refusal}
 use Rattle.frame.specs.declared.parser.Reading.{Reading}
@@ -143,7 +143,7 @@ module _ (f : List ℕ) where
         else_0 = reading_at (read_of f) refl;
       }
 
-  shown : (r : Reading) → refusal (values_of_of r).number (values_of_of r).place ≡ refusal (number_of r) (place_of r)
+  shown : (r : Reading) → refusal (values_of r).number (values_of r).place ≡ refusal (number_of r) (place_of r)
   unfolding plain_values_of data_values_of
   shown JoinRequest = refl
   shown (JoinAccept m) = refl

@@ -9,9 +9,9 @@ use native.Mathlib.Omega.{arith}
 use lib.ListN.{take, drop}
 use Rattle.base.specs.Bytes.{tab, at}
 use Rattle.frame.specs.Conditions.{IsData}
-use Rattle.frame.specs.Layout.{header, mic_of_of}
-use Rattle.frame.specs.ReadingNumbers.{number_of, data_values_of, values_of_of}
-use Rattle.frame.specs.Reading.{port_of_of, payload_of, data_of, read_data_of, read_type_of, read_of}
+use Rattle.frame.specs.Layout.{header, mic_of}
+use Rattle.frame.specs.ReadingNumbers.{number_of, data_values_of, values_of}
+use Rattle.frame.specs.Reading.{port_of, payload_of, data_of, read_data_of, read_type_of, read_of}
 use Rattle.frame.specs.declared.parser.FPort.TheVariants.{Absent}
 use Rattle.frame.specs.declared.parser.Reading.{Reading}
 use Rattle.frame.specs.declared.numbers.Values.{Values}
@@ -40,11 +40,11 @@ abbrev counted : ℕ → List ℕ
 counted n = 0x40 ∷ 0 ∷ 0 ∷ 0 ∷ 0 ∷ 0 ∷ n ∷ 0 ∷ 0 ∷ 0 ∷ 0 ∷ 0 ∷ []
 
 accepted : (n : ℕ) → number_of (read_of (counted n)) ≡ 0
-unfolding read_of read_type_of read_data_of data_of port_of_of payload_of
+unfolding read_of read_type_of read_data_of data_of port_of payload_of
 accepted n = refl
 
-shows : (n : ℕ) → (values_of_of (read_of (counted n))).fcnt ≡ n + 0
-unfolding read_of read_type_of read_data_of data_of port_of_of payload_of data_values_of
+shows : (n : ℕ) → (values_of (read_of (counted n))).fcnt ≡ n + 0
+unfolding read_of read_type_of read_data_of data_of port_of payload_of data_values_of
 shows n = refl
 
 pub refuses_each : (read : List ℕ → Reading) → Reads read → RefusesEach read → ⊥
@@ -52,7 +52,7 @@ refuses_each read meets refuses = refuses (counted 0) (ap number_of (meets (coun
 
 pub same_for_all : (read : List ℕ → Reading) → Reads read → SameForAll read → ⊥
 same_for_all read meets same =
-    let shown : (n : ℕ) → (values_of_of (read (counted n))).fcnt ≡ n + 0 = λ n. ap (λ (r : Reading). (values_of_of r).fcnt) (meets (counted n)) ∙ shows n in
+    let shown : (n : ℕ) → (values_of (read (counted n))).fcnt ≡ n + 0 = λ n. ap (λ (r : Reading). (values_of r).fcnt) (meets (counted n)) ∙ shows n in
     let one : ◌≡◌ {A = ℕ} 0 1 = sym (shown 0) ∙ ap (λ (v : Values). v.fcnt) (same (counted 0) (counted 1) (accepted 0) (accepted 1)) ∙ shown 1 in
     omega (arith, one)
 
@@ -154,7 +154,7 @@ constant_mic_refuted amend meets constant =
     let one = stands (set_to 1 ∷ []) (amend s (set_to 1 ∷ [])) (meets (frame_of 0) key_B key_B 0 opens (set_to 1 ∷ [])) in
     let two = stands (set_to 2 ∷ []) (amend s (set_to 2 ∷ [])) (meets (frame_of 0) key_B key_B 0 opens (set_to 2 ∷ [])) in
     let same : ◌≡◌ {A = ℕ} 0xaa 0x6c =
-    sym (ap (λ (f : List ℕ). at (mic_of_of f) 0) (one ∙ frame_of_1))
+    sym (ap (λ (f : List ℕ). at (mic_of f) 0) (one ∙ frame_of_1))
     ∙ ap (λ (m : List ℕ). at m 0) (constant s s (set_to 1 ∷ []) (set_to 2 ∷ []))
-    ∙ ap (λ (f : List ℕ). at (mic_of_of f) 0) (two ∙ frame_of_2) in
+    ∙ ap (λ (f : List ℕ). at (mic_of f) 0) (two ∙ frame_of_2) in
     omega (arith, same)

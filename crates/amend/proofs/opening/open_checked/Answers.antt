@@ -7,7 +7,7 @@ use borrow.Author.Rules.{rules}
 use lib.ListN.{length}
 use Rattle.frame_security.specs.Mic.{same_bytes}
 use Rattle.frame_security.specs.Security.{covered, data_mic_of}
-use Rattle.frame.specs.Layout.{mic_of_of}
+use Rattle.frame.specs.Layout.{mic_of}
 use Rattle.amend.proofs.OpeningLaws.{tested_is, checked_opens, checked_refuses, stored_frame, opened_is}
 use Rattle.amend.proofs.opening.open_checked.Goals as goal
 
@@ -19,7 +19,7 @@ sign_from-mic-requires c =
 pub returns-then-same_mic : goal.returns-then-same_mic
 returns-then-same_mic c =
     let tested : let args = c.args in
-    c.same_mic.result ≡ same_bytes (data_mic_of args.nwk_skey (covered args.frame.now) args.counter) (mic_of_of args.frame.now) = let args = c.args in
+    c.same_mic.result ≡ same_bytes (data_mic_of args.nwk_skey (covered args.frame.now) args.counter) (mic_of args.frame.now) = let args = c.args in
     tested_is args.frame.now args.nwk_skey args.counter c.requires.0 c.requires.1 c.expand-nwk_schedule.ensures
     c.chains_of-chains.ensures c.sign_from-mic.ensures
     (c.four_at-given.ensures ∙ mic_run args.frame.now (omega (arith, c.requires)))
@@ -33,7 +33,7 @@ returns-then-same_mic c =
 pub returns : goal.returns
 returns c =
     let tested : let args = c.args in
-    c.same_mic.result ≡ same_bytes (data_mic_of args.nwk_skey (covered args.frame.now) args.counter) (mic_of_of args.frame.now) = let args = c.args in
+    c.same_mic.result ≡ same_bytes (data_mic_of args.nwk_skey (covered args.frame.now) args.counter) (mic_of args.frame.now) = let args = c.args in
     tested_is args.frame.now args.nwk_skey args.counter c.requires.0 c.requires.1 c.expand-nwk_schedule.ensures
     c.chains_of-chains.ensures c.sign_from-mic.ensures
     (c.four_at-given.ensures ∙ mic_run args.frame.now (omega (arith, c.requires)))

@@ -4,7 +4,7 @@ use mathlib.Core.Path.{◌≡◌, sym, ap, ◌∙◌}
 use mathlib.Core.List.{List}
 use Prim.Native.Nat.{ℕ}
 use Rattle.mac_commands.specs.Layout.{row, fits, fields_of}
-use Rattle.mac_commands.specs.Commands.{command_of_of, step_of, step_at}
+use Rattle.mac_commands.specs.Commands.{command_of, step_of, step_at}
 use Rattle.mac_commands.specs.declared.maccommands.Command.{Command}
 use Rattle.mac_commands.specs.declared.maccommands.Step.TheVariants.{Found}
 use Rattle.mac_commands.specs.declared.maccommands.RawStep.TheVariants.{Found as RawFound}
@@ -18,9 +18,9 @@ command_of-requires c =
     ap (λ (x : List ℕ). fits (row c.in-Found.r) x) c.values_of-values.ensures
     ∙ fields_fit c.in-Found.r c.in-Found.v (raw_row _ _ _ found)
 
-found : (r v next : ℕ) {x : List ℕ} {c : Command} → x ≡ fields_of (row r) v → c ≡ command_of_of r x
+found : (r v next : ℕ) {x : List ℕ} {c : Command} → x ≡ fields_of (row r) v → c ≡ command_of r x
     → Found c next ≡ step_of (RawFound r v next)
-found r v next f e = ap (λ (c : Command). Found c next) (e ∙ ap (command_of_of r) f)
+found r v next f e = ap (λ (c : Command). Found c next) (e ∙ ap (command_of r) f)
 
 pub returns-in-Found : goal.returns-in-Found
 unfolding step_at
