@@ -1,7 +1,7 @@
 -- An open frame in a buffer of 868 bytes: the frame with the zeros behind it (255), its length (1), the schedule of the
 -- network key (176) and of the application key (176), the chain values (256) and the counter (4, low byte first).
 -- Every buffer holds some state, also one that no call made: its length has one byte, so that it is at most 255.
--- `loaded_stored` and `stored_Loaded` in proofs/HeldUndone.antt say that the two definitions undo each other.
+-- `loaded_stored` and `stored_loaded` in proofs/HeldUndone.antt say that the two definitions undo each other.
 -- Assumes nothing.
 use Rattle.std.specs.Prelude.{List, [], ◌∷◌, ◌++◌, ℕ, ◌%◌}
 use Rattle.base.specs.Bytes.{at, part, four_bytes_of, from_four_bytes}
