@@ -1,10 +1,9 @@
 pub mod CipherLaws
-pub mod Column
 pub mod ExpansionLaws
 pub mod FieldLaws
 pub mod Inverses
 pub mod Linear
-pub mod Lookup
+pub mod Made
 pub mod Rounds
 pub mod ScheduleGrowing
 pub mod Tables

@@ -1,10 +1,10 @@
 -- A loop that writes the schedule a word a turn: the bytes written so far are the words so far, and the next word is
 -- made of two of them, by the code's two cases.
 -- Assumes nothing.
-use mathlib.Core.Path.{◌≡◌, refl, sym, ap, ap₂, ◌∙◌}
+use mathlib.Core.Path.{◌≡◌, sym, ap, ap₂, ◌∙◌}
 use mathlib.Core.Bool.{Bool, true, false}
 use mathlib.Core.List.{List, [], ◌∷◌, ◌++◌}
-use Prim.Native.Nat.{ℕ, zero, suc, ◌+◌, ◌-◌, ◌*◌, ◌/◌, ◌%◌, ◌<◌, ◌≤◌}
+use Prim.Native.Nat.{ℕ, suc, ◌+◌, ◌-◌, ◌*◌, ◌/◌, ◌%◌, ◌<◌, ◌≤◌}
 use native.Mathlib.Numerals.{add-one}
 use native.Mathlib.Omega.{arith}
 use borrow.Author.Tests.{eq-eqb, ne_eqb}
@@ -12,11 +12,11 @@ use lib.Bits.{xor_zero_r}
 use lib.Dec.{eqb}
 use lib.ListN.{length, take, drop, set, length-append}
 use lib.Seq.{sets, sets-eq, length-sets, take_at, get_or-take, length-take-le, take_all}
-use Rattle.base.specs.Bytes.{pick, tab, at, ◌⊕◌}
+use Rattle.base.specs.Bytes.{pick, at, ◌⊕◌}
 use Rattle.base.proofs.Tab.{tab-at, tab_ext}
 use Rattle.base.proofs.Tested.{agree}
 use Rattle.aes.specs.Field.{xtime, sub}
-use Rattle.aes.specs.KeyExpansion.{word, xor_word, rot_word, sub_word, power_of_x, rcon, temp, next_word_of, with_next, words, key_expansion_of}
+use Rattle.aes.specs.KeyExpansion.{word, xor_word, rot_word, sub_word, power_of_x, rcon, temp, next_word_of, words, key_expansion_of}
 
 -- ---- the next word
 
@@ -83,12 +83,6 @@ take_stores w t m h =
 word-take : (w : List ℕ) (m i : ℕ) → 4 * i + 4 ≤ m → word (take m w) i ≡ word w i
 word-take w m i h = tab_ext 4 (λ j. at (take m w) (4 * i + j)) (λ j. at w (4 * i + j)) (λ j k. get_or-take m w (4 * i + j) 0 (omega arith))
 
--- a word, as the code reads it
-pub word_read : (w : List ℕ) (n : ℕ) → at w (4 * n) ∷ at w (4 * n + 1) ∷ at w (4 * n + 2) ∷ at w (4 * n + 3) ∷ [] ≡ word w n
-word_read w n =
-    let zeroth : 4 * n ≡ 4 * n + 0 = omega arith in
-    same_four _ _ _ _ _ _ _ _ (ap (at w) zeroth) refl refl refl
-
 pub more : {key w : List ℕ} {n : ℕ} (t : List ℕ) → Growing key w n → n < 40 → t ≡ next_word_of (word w n) (word w (n + 3)) (n + 4)
     → Growing key
     (set
@@ -129,21 +123,13 @@ grown {key} {w} {n} g k =
 
 -- ---- the first words
 
-first_words : (w : List ℕ) → length w ≡ 176 → take 16 w ≡ tab 16 (at w)
-first_words w l =
-    tab-at (take 16 w) 16 (length-take-le 16 w (omega (arith, l)))
-    ∙ tab_ext 16 (at (take 16 w)) (at w) (λ i k. get_or-take 16 w i 0 k)
-
--- what holds the key in its first words may stand for it
-pub started : (w : List ℕ) → length w ≡ 176 → Growing w w 0
+-- the key, with room behind it for the words to come
+pub started : (key t r : List ℕ) → length key ≡ 16 → t ≡ key → length r ≡ 160 → Growing key (t ++ r) 0
 unfolding words
-started w l = record { upto = omega arith; long = l; so_far = first_words w l }
-
-words_same : (n : ℕ) (k w : List ℕ) → tab 16 (at k) ≡ tab 16 (at w) → words n k ≡ words n w
-unfolding words
-words_same zero k w e = e
-words_same (suc n) k w e = ap (λ (l : List ℕ). with_next l (n + 4)) (words_same n k w e)
-
-pub same_schedule : (key w : List ℕ) → length w ≡ 176 → take 16 w ≡ tab 16 (at key) → key_expansion_of w ≡ key_expansion_of key
-unfolding key_expansion_of
-same_schedule key w l e = words_same 40 w key (sym (first_words w l) ∙ e)
+started key t r l e m =
+    let long : length t ≡ 16 = ap length e ∙ l in
+    record {
+      upto = omega arith;
+      long = omega (arith, length-append t r);
+      so_far = take_at t r 16 long ∙ e ∙ tab-at key 16 l;
+    }

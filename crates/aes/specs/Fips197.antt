@@ -8,10 +8,6 @@ use Rattle.aes.specs.Field.{mul, sub, inv_sub}
 
 -- ---- 5.1: the four steps of a round
 
--- what the table t holds at each byte of a state
-unfoldable pub looked : List ℕ → List ℕ → List ℕ
-looked t s = tab 16 (λ i. at t (at s i))
-
 unfoldable pub sub_bytes_of : List ℕ → List ℕ
 sub_bytes_of s = tab 16 (λ i. sub (at s i))
 

@@ -2,7 +2,6 @@
 #![tactic(auto)]
 
 ghost use Rattle.std.specs.Prelude.{◌≡◌, ◌<◌};
-ghost use Rattle.aes.specs.Field.{s_box, inv_sbox};
 ghost use Rattle.aes.specs.KeyExpansion.{key_expansion_of};
 ghost use Rattle.aes.specs.Fips197.{round, cipher, inv_round, inv_cipher};
 
@@ -11,50 +10,43 @@ mod field;
 pub mod key_expansion;
 mod steps;
 
-fn one_round(table: &[u8; 256], schedule: &[u8; 176], r: usize, s: [u8; 16]) -> [u8; 16]
-    requires { (table.now ≡ s_box) × (r < 10) }
+// The two ways stay apart: the inverse cipher has the four steps of a round in another order.
+fn one_round(schedule: &[u8; 176], r: usize, s: [u8; 16]) -> [u8; 16]
+    requires { r < 10 }
     ensures { result ≡ round schedule.now r s }
 {
-    let shifted = steps::shift_rows(steps::sub_bytes(table, s));
+    let shifted = steps::shift_rows(steps::sub_bytes(s));
     steps::add_round_key(schedule, r, columns::mix_columns(shifted))
 }
 
-fn one_inverse_round(table: &[u8; 256], schedule: &[u8; 176], r: usize, s: [u8; 16]) -> [u8; 16]
-    requires { (table.now ≡ inv_sbox) × (r < 10) }
+fn one_inverse_round(schedule: &[u8; 176], r: usize, s: [u8; 16]) -> [u8; 16]
+    requires { r < 10 }
     ensures { result ≡ inv_round schedule.now r s }
 {
-    let substituted = steps::inv_sub_bytes(table, steps::inv_shift_rows(s));
+    let substituted = steps::inv_sub_bytes(steps::inv_shift_rows(s));
     columns::inv_mix_columns(steps::add_round_key(schedule, r, substituted))
 }
 
 pub fn encrypt_under(schedule: &[u8; 176], block: [u8; 16]) -> [u8; 16]
     ensures { result ≡ cipher schedule.now block }
 {
-    let table = field::substitution::table();
     let mut s = steps::add_round_key(schedule, 0, block);
-    let mut n = 0;
-    while n < 9 {
-        let next = one_round(&table, schedule, n + 1, s);
+    for r in 1..10 {
+        let next = one_round(schedule, r, s);
         s = next;
-        n += 1;
     }
-    let shifted = steps::shift_rows(steps::sub_bytes(&table, s));
-    steps::add_round_key(schedule, 10, shifted)
+    steps::add_round_key(schedule, 10, steps::shift_rows(steps::sub_bytes(s)))
 }
 
 pub fn decrypt_under(schedule: &[u8; 176], block: [u8; 16]) -> [u8; 16]
     ensures { result ≡ inv_cipher schedule.now block }
 {
-    let table = field::inverse_substitution::table();
     let mut s = steps::add_round_key(schedule, 10, block);
-    let mut n = 9;
-    while 0 < n {
-        let next = one_inverse_round(&table, schedule, n, s);
+    for r in (1..10).rev() {
+        let next = one_inverse_round(schedule, r, s);
         s = next;
-        n -= 1;
     }
-    let substituted = steps::inv_sub_bytes(&table, steps::inv_shift_rows(s));
-    steps::add_round_key(schedule, 0, substituted)
+    steps::add_round_key(schedule, 0, steps::inv_sub_bytes(steps::inv_shift_rows(s)))
 }
 
 pub fn encrypt(key: [u8; 16], block: [u8; 16]) -> [u8; 16]

@@ -1,15 +1,18 @@
--- One turn of `update`, whichever arm it takes: what is still to be taken in gives the same. A byte goes into the open
--- block; behind a full block a byte or a whole block goes into the next one, after the full one is enciphered.
+-- The turns of an update: what is still to be taken in gives the same. A byte goes into the open block; behind a full block
+-- a byte or a whole block goes into the next one, after the full one is enciphered.
 -- Assumes nothing.
-use mathlib.Core.Path.{◌≡◌, refl, sym, ap, ap₂, ◌∙◌}
+use mathlib.Core.Path.{◌≡◌, refl, sym, subst, ap, ap₂, ◌∙◌}
 use mathlib.Core.List.{List, [], ◌∷◌, ◌++◌, append-nil, append_assoc}
-use Prim.Native.Nat.{ℕ, ◌+◌, ◌≤◌, ◌<◌}
+use Prim.Native.Nat.{ℕ, zero, suc, ◌+◌, ◌-◌, ◌*◌, ◌≤◌, ◌<◌, min}
+use native.Mathlib.Nat.{not-suc-le-zero}
 use native.Mathlib.Numerals.{add-one}
 use native.Mathlib.Omega.{arith}
-use lib.ListN.{length, drop, length-append, length-drop, take-append-drop}
+use lib.ListN.{length, get_or, take, drop, length-append, length-drop, take-append-drop}
 use lib.Seq.{drop-cons, drop-drop, length-take-le}
 use borrow.Author.Tests.{lt-ltb, le-ltb}
 use Rattle.base.specs.Bytes.{at, part, xor_lists}
+use Rattle.std.specs.Simd.{first_chunks}
+use Rattle.base.proofs.Cases.{by_order}
 use Rattle.base.proofs.Xor.{xor_lists_nil}
 use Rattle.cmac.specs.LastBlock.{mixed}
 use Rattle.aes.specs.Fips197.{cipher}
@@ -18,35 +21,25 @@ use Rattle.cmac.specs.declared.Cmac.{Cmac}
 use Rattle.cmac.specs.Running.{running, pushed, absorbed}
 use Rattle.cmac.proofs.CmacLaws.{mixed_snoc}
 
-push_open : (ks x : List ℕ) (n b : ℕ) → n < 16 → pushed (running ks x n) b ≡ running ks (mixed x n b) (n + 1)
+pub push_open : (ks x : List ℕ) (n b : ℕ) → n < 16 → pushed (running ks x n) b ≡ running ks (mixed x n b) (n + 1)
 unfolding pushed
 push_open ks x n b h = simp (lt-ltb n 16 h)
 
-push_full : (ks x : List ℕ) (n b : ℕ) → 16 ≤ n → pushed (running ks x n) b ≡ running ks (mixed (cipher ks x) 0 b) 1
+pub push_full : (ks x : List ℕ) (n b : ℕ) → 16 ≤ n → pushed (running ks x n) b ≡ running ks (mixed (cipher ks x) 0 b) 1
 unfolding pushed
 push_full ks x n b h = simp (le-ltb n 16 h)
 
 -- a byte of the message, taken in
-taken : (s s' : Cmac) (p : List ℕ) (i : ℕ) → i < length p → pushed s (at p i) ≡ s'
+pub taken : (s s' : Cmac) (p : List ℕ) (i : ℕ) → i < length p → pushed s (at p i) ≡ s'
     → absorbed s' (drop (i + 1) p) ≡ absorbed s (drop i p)
 unfolding absorbed
 taken s s' p i h e =
     ap₂ absorbed (sym e) (ap (λ (n : ℕ). drop n p) (add-one i))
     ∙ ap (absorbed s) (sym (drop-cons p i 0 h))
 
-pub byte_open : (ks x p : List ℕ) (n i : ℕ) → n < 16 → i < length p
-    → absorbed (running ks (mixed x n (at p i)) (n + 1)) (drop (i + 1) p) ≡ absorbed (running ks x n) (drop i p)
-byte_open ks x p n i h k =
-    taken (running ks x n) (running ks (mixed x n (at p i)) (n + 1)) p i k (push_open ks x n (at p i) h)
-
-pub byte_next : (ks x p : List ℕ) (n i : ℕ) → 16 ≤ n → i < length p
-    → absorbed (running ks (mixed (cipher ks x) 0 (at p i)) 1) (drop (i + 1) p) ≡ absorbed (running ks x n) (drop i p)
-byte_next ks x p n i h k =
-    taken (running ks x n) (running ks (mixed (cipher ks x) 0 (at p i)) 1) p i k (push_full ks x n (at p i) h)
-
 -- ---- a whole block
 
-absorb_append : (s : Cmac) (p q : List ℕ) → absorbed s (p ++ q) ≡ absorbed (absorbed s p) q
+pub absorb_append : (s : Cmac) (p q : List ℕ) → absorbed s (p ++ q) ≡ absorbed (absorbed s p) q
 unfolding absorbed
 absorb_append s [] q = refl
 absorb_append s (b ∷ p) q = absorb_append (pushed s b) p q
@@ -85,3 +78,33 @@ block_next ks x p n i h k =
     ap₂ absorbed (sym whole) (sym (drop-drop 16 i p))
     ∙ sym (absorb_append (running ks x n) (part i 16 p) (drop 16 (drop i p)))
     ∙ ap (absorbed (running ks x n)) (take-append-drop 16 (drop i p))
+
+-- the chunk i of a string that is cut into blocks
+pub nth_chunk : (k i : ℕ) (p d : List ℕ) → i < k → get_or (first_chunks 16 k p) i d ≡ part (16 * i) 16 p
+nth_chunk zero i p d h = absurd (not-suc-le-zero h)
+nth_chunk (suc k) zero p d h = refl
+nth_chunk (suc k) (suc i) p d h =
+    let place : 16 + 16 * i ≡ 16 * suc i = omega arith in
+    nth_chunk k i (drop 16 p) d (omega arith)
+    ∙ ap (take 16) (drop-drop (16 * i) 16 p ∙ ap (λ (n : ℕ). drop n p) place)
+
+-- ---- what the open block has room for
+
+filled_by : (s : Cmac) (p : List ℕ) → s.filled + length p ≤ 16 → (absorbed s p).filled ≡ s.filled + length p
+unfolding absorbed
+filled_by s [] h = omega arith
+filled_by s (b ∷ p) h =
+    let one : (pushed s b).filled ≡ s.filled + 1 = ap (λ (t : Cmac). t.filled) (push_open s.schedule s.chain s.filled b (omega arith)) in
+    filled_by (pushed s b) p (omega (arith, one)) ∙ omega (arith, one)
+
+-- where more comes than that, the block is full
+pub full_then : (s : Cmac) (p : List ℕ) (n : ℕ) → n ≡ min (16 - s.filled) (length p) → 0 < length (drop n p)
+    → 16 ≤ (absorbed s (take n p)).filled
+unfolding absorbed
+full_then s p n e h =
+    let more : n < length p = omega (arith, length-drop n p) in
+    by_order s.filled 16
+    (λ k. omega (arith, filled_by s (take n p) (omega (arith, length-take-le n p (omega arith))), length-take-le n p (omega arith)))
+    (λ k.
+    let none : n ≡ 0 = omega arith in
+    subst (λ (m : ℕ). 16 ≤ (absorbed s (take m p)).filled) (sym none) (omega arith))

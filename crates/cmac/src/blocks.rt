@@ -4,31 +4,23 @@ ghost use Rattle.base.specs.Bytes.{xor_lists};
 ghost use Rattle.cmac.specs.Doubling.{shifted, doubled};
 ghost use Rattle.cmac.specs.LastBlock.{ended};
 
+use std::array::from_fn;
+
 // Two blocks, byte by byte.
-pub(crate) fn xored(a: [u8; 16], b: [u8; 16]) -> [u8; 16]
-    ensures { result ≡ xor_lists a b }
+pub(crate) fn xored(a: [u8; 16], b: &[u8; 16]) -> [u8; 16]
+    ensures { result ≡ xor_lists a b.now }
 {
-    let mut r = [0u8; 16];
-    let mut i: usize = 0;
-    while i < 16 {
-        r[i] = a[i] ^ b[i];
-        i += 1;
-    }
-    r
+    from_fn(|i| a[i] ^ b[i])
 }
 
-// Shifted left by one bit.
+// Shifted left by one bit; a zero comes in behind.
 fn shift(x: [u8; 16]) -> [u8; 16]
     ensures { result ≡ shifted x }
 {
-    let mut r = [0u8; 16];
-    let mut i: usize = 0;
-    while i < 15 {
-        r[i] = (x[i] << 1) + (x[i + 1] >> 7);
-        i += 1;
-    }
-    r[15] = x[15] << 1;
-    r
+    from_fn(|i| {
+        let behind = if i < 15 { x[i + 1] } else { 0 };
+        (x[i] << 1) + (behind >> 7)
+    })
 }
 
 // Section 2.3: shifted left by one bit; a one that falls out comes back as 0x87 in the last byte.
@@ -39,7 +31,7 @@ fn double(x: [u8; 16]) -> [u8; 16]
     if x[0] < 128 {
         return r;
     }
-    r[15] = r[15] ^ 0x87;
+    r[15] ^= 0x87;
     r
 }
 
@@ -51,9 +43,9 @@ pub(crate) fn last_block(l: [u8; 16], chain: [u8; 16], count: usize) -> [u8; 16]
     let k1 = double(l);
     let mut last = chain;
     if count < 16 {
-        last[count] = last[count] ^ 0x80;
+        last[count] ^= 0x80;
         let k2 = double(k1);
-        return xored(last, k2);
+        return xored(last, &k2);
     }
-    xored(last, k1)
+    xored(last, &k1)
 }

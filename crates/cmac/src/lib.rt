@@ -2,17 +2,18 @@
 // its crate states.
 #![tactic(auto)]
 
-ghost use Rattle.std.specs.Prelude.{◌≡◌, ◌+◌, ◌≤◌, length};
-ghost use Rattle.base.specs.Bytes.{part, xor_lists};
+ghost use Rattle.std.specs.Prelude.{◌≡◌, ◌<◌, ◌≤◌, length};
+ghost use Rattle.base.specs.Bytes.{xor_lists};
 ghost use Rattle.aes.specs.KeyExpansion.{key_expansion_of};
 ghost use Rattle.aes.specs.Fips197.{cipher};
 ghost use Rattle.cmac.specs.Rfc4493.{mac};
-ghost use Rattle.cmac.specs.Running.{started, resumed, absorbed, finished};
+ghost use Rattle.cmac.specs.Running.{started, resumed, pushed, absorbed, finished};
 
 mod blocks;
 
 // A tag under way. `chain` already holds the bytes of the open block, `filled` says how many those are. A full block
-// is enciphered only when a further byte comes, since the last block of a message is treated apart.
+// is enciphered only when a further byte comes, since the last block of a message is treated apart. A state may be built with
+// any `filled`: sixteen or more is a full block, so that no call needs a bound on it.
 #[derive(Clone, Copy)]
 pub struct Cmac {
     pub schedule: [u8; 176],
@@ -20,25 +21,11 @@ pub struct Cmac {
     pub filled: usize,
 }
 
-// A block with the sixteen bytes from `at` on, byte by byte.
-fn xored_at(block: [u8; 16], bytes: &[u8], at: usize) -> [u8; 16]
-    requires { at + 16 ≤ length bytes.now }
-    ensures { result ≡ xor_lists block (part at 16 bytes.now) }
-{
-    let mut r = [0u8; 16];
-    let mut i: usize = 0;
-    while i < 16 {
-        r[i] = block[i] ^ bytes[at + i];
-        i += 1;
-    }
-    r
-}
-
 // One step of the chain: what stands after `block`, where `chain` stood before it.
 pub fn next_chain(schedule: &[u8; 176], chain: [u8; 16], block: [u8; 16]) -> [u8; 16]
     ensures { result ≡ cipher schedule.now (xor_lists chain block) }
 {
-    let open = blocks::xored(chain, block);
+    let open = blocks::xored(chain, &block);
     aes::encrypt_under(schedule, open)
 }
 
@@ -68,51 +55,63 @@ impl Cmac {
         }
     }
 
-    // A part of the message. Whole blocks behind a full one go a block a turn, other bytes one by one.
+    // One byte more.
+    fn push(&mut self, byte: u8)
+        ensures { self.new ≡ pushed self.old byte }
+    {
+        if self.filled < 16 {
+            self.chain[self.filled] ^= byte;
+            self.filled += 1;
+        } else {
+            let mut next = aes::encrypt_under(&self.schedule, self.chain);
+            next[0] ^= byte;
+            self.chain = next;
+            self.filled = 1;
+        }
+    }
+
+    fn push_each(&mut self, bytes: &[u8])
+        ensures { self.new ≡ absorbed self.old bytes.now }
+    {
+        for byte in bytes {
+            self.push(*byte);
+        }
+    }
+
+    // What comes behind a full block: whole blocks go a block a turn.
+    fn push_blocks(&mut self, bytes: &[u8])
+        requires { 0 < length bytes.now → 16 ≤ self.old.filled }
+        ensures { self.new ≡ absorbed self.old bytes.now }
+    {
+        let (blocks, last) = bytes.as_chunks::<16>();
+        for block in blocks {
+            let next = aes::encrypt_under(&self.schedule, self.chain);
+            let open = blocks::xored(next, block);
+            self.chain = open;
+            self.filled = 16;
+        }
+        self.push_each(last);
+    }
+
+    // A part of the message: what the open block has room for, then the rest.
     pub fn update(self, part: &[u8]) -> Self
         ensures { result ≡ absorbed self part.now }
     {
-        let schedule = self.schedule;
-        let mut chain = self.chain;
-        let mut filled = self.filled;
-        let mut i: usize = 0;
-        while i < part.len() {
-            if filled < 16 {
-                chain[filled] = chain[filled] ^ part[i];
-                filled += 1;
-                i += 1;
-            } else {
-                let next = aes::encrypt_under(&schedule, chain);
-                if part.len() - i < 16 {
-                    chain = next;
-                    chain[0] = chain[0] ^ part[i];
-                    filled = 1;
-                    i += 1;
-                } else {
-                    let open = xored_at(next, part, i);
-                    chain = open;
-                    filled = 16;
-                    i += 16;
-                }
-            }
-        }
-        Cmac {
-            schedule,
-            chain,
-            filled,
-        }
+        let room = 16usize.saturating_sub(self.filled);
+        let (head, tail) = part.split_at(room.min(part.len()));
+        let mut state = self;
+        state.push_each(head);
+        state.push_blocks(tail);
+        state
     }
 
     // Section 2.4: the tag of what was taken in.
     pub fn finish(self) -> [u8; 16]
         ensures { result ≡ finished self }
     {
-        let schedule = self.schedule;
-        let chain = self.chain;
-        let zero = [0u8; 16];
-        let l = aes::encrypt_under(&schedule, zero);
-        let last = blocks::last_block(l, chain, self.filled);
-        aes::encrypt_under(&schedule, last)
+        let l = aes::encrypt_under(&self.schedule, [0u8; 16]);
+        let last = blocks::last_block(l, self.chain, self.filled);
+        aes::encrypt_under(&self.schedule, last)
     }
 }
 

@@ -1,24 +1,11 @@
--- `aes::columns::mix_columns` meets its contract: the loop fills the state a column a turn.
--- Assumes nothing.
-use mathlib.Core.Path.{refl}
-use Prim.Native.Nat.{◌-◌}
-use native.Mathlib.Omega.{arith}
-use Rattle.base.proofs.Filling.{start, done}
-use Rattle.aes.specs.Fips197.{mix_row, mix_columns_of}
-use Rattle.aes.proofs.Column.{column}
+-- `aes::columns::mix_columns` meets its contract: each byte is a row's. Assumes nothing.
+use borrow.Author.Rules.{rules}
+use Rattle.aes.specs.Fips197.{mixed_at, mix_row, mix_columns_of}
+use Rattle.aes.proofs.Made.{table}
 use Rattle.aes.proofs.columns.mix_columns.Goals as goal
-
-pub loop-column-init : goal.loop-column-init
-loop-column-init c = start 16 _ _ refl
-
-pub loop-column-preserved : goal.loop-column-preserved
-loop-column-preserved c =
-    column mix_row c.args.s _ c.loop-column.column _ _ _ _ c.loop-column.invariant c.loop-column-test.true
-    c.mixed.ensures
-    c.mixed-in-loop-column.ensures
-    c.mixed-in-loop-column-2.ensures
-    c.mixed-in-loop-column-3.ensures
 
 pub returns : goal.returns
 unfolding mix_columns_of
-returns c = done c.loop-column.invariant (omega arith)
+returns c =
+    table (mixed_at mix_row c.args.s) 16 c.by_columns.result c.by_columns.ensures.long
+    (λ i l. let row = c.by_columns.ensures.rows i l in search rules)

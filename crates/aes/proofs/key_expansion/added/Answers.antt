@@ -3,21 +3,9 @@
 use Rattle.aes.proofs.ScheduleGrowing.{temp_turned, temp_kept}
 use Rattle.aes.proofs.key_expansion.added.Goals as goal
 
-pub substituted-requires : goal.substituted-requires
-substituted-requires c = c.requires.0
-
-pub substituted-requires-then-n-eq0 : goal.substituted-requires-then-n-eq0
-substituted-requires-then-n-eq0 c = c.requires.0
-
-pub substituted-requires-then-n-eq0-2 : goal.substituted-requires-then-n-eq0-2
-substituted-requires-then-n-eq0-2 c = c.requires.0
-
-pub substituted-requires-then-n-eq0-3 : goal.substituted-requires-then-n-eq0-3
-substituted-requires-then-n-eq0-3 c = c.requires.0
-
 pub returns-then-n-eq0 : goal.returns-then-n-eq0
 returns-then-n-eq0 c =
-    temp_turned c.args.q c.args.n c.requires.1 c.if-n-eq0.true
+    temp_turned c.args.q c.args.n c.requires c.if-n-eq0.true
     c.substituted.ensures
     c.substituted-then-n-eq0.ensures
     c.substituted-then-n-eq0-2.ensures
