@@ -2,6 +2,7 @@
 -- amended, encrypted and signed afresh, and the state is the one that opening the frame as it then stands gives. By
 -- induction on the list: one amendment gives the opened state of the frame sealed anew, which opening accepts again.
 -- Assumes nothing.
+use Rattle.std.specs.Prelude.{Err}
 use mathlib.Core.Path.{◌≡◌, refl, sym, ap, ap₂, ◌∙◌, subst}
 use mathlib.Core.Bool.{Bool, true, false}
 use mathlib.Core.List.{List, [], ◌∷◌}
@@ -15,12 +16,10 @@ use Rattle.base.specs.Bytes.{pick, at}
 use Rattle.base.proofs.Cases.{by_order}
 use Rattle.frame.specs.Layout.{header, payload}
 use Rattle.frame_security.specs.Sealing.{sealed}
-use Rattle.frame.specs.Refusals.{refused}
+use Rattle.frame.specs.Refusals.{refused, refusal_in}
 use Rattle.amend.specs.declared.amending.Open.{Open}
-use Rattle.amend.specs.declared.opening.Opened.{Opened}
-use Rattle.amend.specs.declared.amending.Amended.{Amended}
-use Rattle.amend.specs.Amending.{payload_length_of, amend_of}
-use Rattle.amend.specs.OpenFrame.{opened_of, open_of}
+use Rattle.amend.specs.Amending.{Amended, payload_length_of, amend_of}
+use Rattle.amend.specs.OpenFrame.{opened_of, open_of, state_in}
 use Rattle.amend.specs.AmendmentLists.{Amendment, amended_by, payload_by, clear_of, Stands}
 use Rattle.amend.proofs.Accepted.{Accepted, accepted_opens, opens_accepted}
 use Rattle.amend.proofs.OneByte.{held-take, payload_count, again, amended_opened}
@@ -131,16 +130,16 @@ module _ (f nwk app : List ℕ) (counter : ℕ) where
   after_accepted a list =
       sealed-accepted f nwk app counter a.data_frame (payload_by (clear_of f nwk app counter) list) (payload_same list) a.low_half
 
-  opened_is : (open_of f nwk app counter).refusal.number ≡ 0 → (open_of f nwk app counter).state ≡ opened_of f nwk app counter
-  opened_is e = ap (λ (o : Opened). o.state) (accepted_opens f nwk app counter (opens_accepted f nwk app counter e))
+  opened_is : (refusal_in (open_of f nwk app counter)).number ≡ 0 → state_in (open_of f nwk app counter) ≡ opened_of f nwk app counter
+  opened_is e = ap state_in (accepted_opens f nwk app counter (opens_accepted f nwk app counter e))
 
-  pub state_after : (open_of f nwk app counter).refusal.number ≡ 0 → (list : List Amendment)
-      → amended_by (open_of f nwk app counter).state list ≡ opened_of (after nwk app counter f list) nwk app counter
+  pub state_after : (refusal_in (open_of f nwk app counter)).number ≡ 0 → (list : List Amendment)
+      → amended_by (state_in (open_of f nwk app counter)) list ≡ opened_of (after nwk app counter f list) nwk app counter
   state_after e list =
       ap (λ (s : Open). amended_by s list) (opened_is e)
       ∙ amended_by_lem nwk app counter list f (opens_accepted f nwk app counter e)
 
-  after_stands : (open_of f nwk app counter).refusal.number ≡ 0 → (list : List Amendment)
+  after_stands : (refusal_in (open_of f nwk app counter)).number ≡ 0 → (list : List Amendment)
       → Stands f nwk app counter list (opened_of (after nwk app counter f list) nwk app counter)
   after_stands e list =
       let a = opens_accepted f nwk app counter e in
@@ -156,32 +155,32 @@ module _ (f nwk app : List ℕ) (counter : ℕ) where
       }
 
   -- Demand 3, for every accepted opening and every list of amendments
-  pub demand_3 : (open_of f nwk app counter).refusal.number ≡ 0 → (list : List Amendment)
-      → Stands f nwk app counter list (amended_by (open_of f nwk app counter).state list)
+  pub demand_3 : (refusal_in (open_of f nwk app counter)).number ≡ 0 → (list : List Amendment)
+      → Stands f nwk app counter list (amended_by (state_in (open_of f nwk app counter)) list)
   demand_3 e list = subst (λ (s : Open). Stands f nwk app counter list s) (sym (state_after e list)) (after_stands e list)
 
   -- ---- which amendments are accepted, and two that change nothing more
 
-  count_is : (open_of f nwk app counter).refusal.number ≡ 0 → payload_length_of (open_of f nwk app counter).state ≡ length (payload f)
+  count_is : (refusal_in (open_of f nwk app counter)).number ≡ 0 → payload_length_of (state_in (open_of f nwk app counter)) ≡ length (payload f)
   count_is e =
       ap payload_length_of (opened_is e)
       ∙ payload_count f nwk app counter (opens_accepted f nwk app counter e).data_frame
 
   -- 15 at or past the payload's length; so with no payload each amendment gets it
-  pub outside_refused : (open_of f nwk app counter).refusal.number ≡ 0 → (k v : ℕ) → length (payload f) ≤ k
-      → amend_of (open_of f nwk app counter).state k v
-      ≡ record { refusal = refused 15; state = (open_of f nwk app counter).state }
-  outside_refused e k v h = amend_outside (open_of f nwk app counter).state k v (omega (arith, count_is e))
+  pub outside_refused : (refusal_in (open_of f nwk app counter)).number ≡ 0 → (k v : ℕ) → length (payload f) ≤ k
+      → amend_of (state_in (open_of f nwk app counter)) k v
+      ≡ record { answer = Err (refused 15); state = state_in (open_of f nwk app counter) }
+  outside_refused e k v h = amend_outside (state_in (open_of f nwk app counter)) k v (omega (arith, count_is e))
 
-  pub inside_accepted : (open_of f nwk app counter).refusal.number ≡ 0 → (k v : ℕ) → k < length (payload f)
-      → (amend_of (open_of f nwk app counter).state k v).refusal.number ≡ 0
+  pub inside_accepted : (refusal_in (open_of f nwk app counter)).number ≡ 0 → (k v : ℕ) → k < length (payload f)
+      → (refusal_in (amend_of (state_in (open_of f nwk app counter)) k v).answer).number ≡ 0
   inside_accepted e k v h =
-      ap (λ (r : Amended). r.refusal.number) (amend_inside (open_of f nwk app counter).state k v (omega (arith, count_is e)))
+      ap (λ (r : Amended). (refusal_in r.answer).number) (amend_inside (state_in (open_of f nwk app counter)) k v (omega (arith, count_is e)))
 
   -- naming a byte again: the later value decides
-  pub later_decides : (open_of f nwk app counter).refusal.number ≡ 0 → (k v w : ℕ)
-      → amended_by (open_of f nwk app counter).state (record { offset = k; value = v } ∷ record { offset = k; value = w } ∷ [])
-      ≡ amended_by (open_of f nwk app counter).state (record { offset = k; value = w } ∷ [])
+  pub later_decides : (refusal_in (open_of f nwk app counter)).number ≡ 0 → (k v w : ℕ)
+      → amended_by (state_in (open_of f nwk app counter)) (record { offset = k; value = v } ∷ record { offset = k; value = w } ∷ [])
+      ≡ amended_by (state_in (open_of f nwk app counter)) (record { offset = k; value = w } ∷ [])
   unfolding payload_by
   later_decides e k v w =
       let clear = clear_of f nwk app counter in
@@ -190,10 +189,10 @@ module _ (f nwk app : List ℕ) (counter : ℕ) where
       ∙ sym (state_after e (record { offset = k; value = w } ∷ []))
 
   -- writing the value that is there changes nothing
-  pub same_value : (open_of f nwk app counter).refusal.number ≡ 0 → (k : ℕ)
-      → amended_by (open_of f nwk app counter).state
+  pub same_value : (refusal_in (open_of f nwk app counter)).number ≡ 0 → (k : ℕ)
+      → amended_by (state_in (open_of f nwk app counter))
       (record { offset = k; value = at (clear_of f nwk app counter) k } ∷ [])
-      ≡ (open_of f nwk app counter).state
+      ≡ state_in (open_of f nwk app counter)
   unfolding payload_by
   same_value e k =
       let clear = clear_of f nwk app counter in

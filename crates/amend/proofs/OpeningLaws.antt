@@ -1,6 +1,7 @@
 -- What opening computes is what its definition says: the first chain value comes of B_0, carrying on gives the rest, the
 -- MIC from the last of them is that of the frame, and the bytes that are stored are the frame with zeros behind.
 -- Assumes nothing.
+use Rattle.std.specs.Prelude.{Ok, Err}
 use mathlib.Core.Path.{◌≡◌, sym, ap, ap₂, ◌∙◌, subst}
 use mathlib.Core.Bool.{Bool, true, false}
 use mathlib.Core.List.{List, ◌++◌}
@@ -22,17 +23,17 @@ use Rattle.cmac.specs.Rfc4493.{chain, mac}
 use Rattle.cmac.proofs.CmacLaws.{chain_zero, chain_suc}
 use Rattle.frame.specs.Conditions.{IsData}
 use Rattle.frame.specs.Layout.{fcnt, mic_of}
-use Rattle.frame.specs.ReadingNumbers.{other_refusal_of, on_data}
+use Rattle.frame.specs.ReadingNumbers.{data_in, on_data}
 use Rattle.frame.specs.Reading.{data_of, read_of}
 use Rattle.frame.specs.declared.parser.DataFrame.{DataFrame}
-use Rattle.frame.specs.declared.parser.Reading.TheVariants.{Data}
-use Rattle.frame.proofs.Others.{not_data}
+use Rattle.frame.specs.declared.parser.Frame.TheVariants.{Data}
 use Rattle.frame.proofs.ReadingLaws.{reads_data, data_fields}
 use Rattle.frame_security.proofs.SecurityLaws.{mic_block_of_long}
-use Rattle.frame.specs.Refusals.{refused}
+use Rattle.frame.specs.Refusals.{refused, by_result}
+use Rattle.frame.specs.declared.refusals.Refusal.{Refusal}
 use Rattle.amend.specs.Amending.{open_state, last_place, chained, signed_from}
 use Rattle.amend.specs.declared.amending.Open.{Open}
-use Rattle.amend.specs.OpenFrame.{held, chains_of, opened_of, refused_opening, accepted_opening, open_checked_of, open_data, open_of}
+use Rattle.amend.specs.OpenFrame.{held, chains_of, opened_of, open_checked_of, open_data, open_of}
 use Rattle.frame_security.specs.Security.{covered, mic_block_of, message, data_mic_of}
 use Rattle.amend.proofs.Stores.{part_after, part-stored}
 use Rattle.amend.proofs.Chains.{Right, table_right, carried_table, block_behind, signed_right}
@@ -105,16 +106,14 @@ tested_is f nwk counter lo hi hk hc hm hg ht =
 
 -- the answer by that test: the state, or 5
 module _ (f nwk app : List ℕ) (counter : ℕ) {t : Bool} (e : t ≡ same_bytes (data_mic_of nwk (covered f) counter) (mic_of f)) where
-  pub checked_opens : t ≡ true → {s : Open} → s ≡ opened_of f nwk app counter → accepted_opening s ≡ open_checked_of f nwk app counter
+  pub checked_opens : t ≡ true → {s : Open} → s ≡ opened_of f nwk app counter → Ok s ≡ open_checked_of f nwk app counter
   unfolding open_checked_of
   checked_opens h made =
-      ap accepted_opening made
-      ∙ ap (λ (b : Bool). pick b (accepted_opening (opened_of f nwk app counter)) (refused_opening (refused 5))) (sym h ∙ e)
+      ap Ok made ∙ ap (λ (b : Bool). pick b (Ok (opened_of f nwk app counter)) (Err (refused 5))) (sym h ∙ e)
 
-  pub checked_refuses : t ≡ false → refused_opening (refused 5) ≡ open_checked_of f nwk app counter
+  pub checked_refuses : t ≡ false → Err (refused 5) ≡ open_checked_of f nwk app counter
   unfolding open_checked_of
-  checked_refuses h =
-      ap (λ (b : Bool). pick b (accepted_opening (opened_of f nwk app counter)) (refused_opening (refused 5))) (sym h ∙ e)
+  checked_refuses h = ap (λ (b : Bool). pick b (Ok (opened_of f nwk app counter)) (Err (refused 5))) (sym h ∙ e)
 
 -- the frame stored at the front of 255 zeros
 pub stored_frame : (f : List ℕ) → length f ≤ 255 → sets (replicate {A = ℕ} 255 0) 0 f ≡ held f
@@ -147,23 +146,22 @@ opened_is f nwk app counter {g} {ks} {ks'} {chains} hg hk hk' hc =
 module _ (f nwk app : List ℕ) (counter : ℕ) where
   pub open_data_lem : IsData f → open_of f nwk app counter ≡ open_data f nwk app counter
   unfolding open_of
-  open_data_lem h = ap (on_data (λ d. open_data f nwk app counter) refused_opening) (reads_data f h)
+  open_data_lem h = ap (on_data (λ d. open_data f nwk app counter) Err) (reads_data f h)
 
   pub counter_right : counter % 65536 ≡ fcnt f → open_data f nwk app counter ≡ open_checked_of f nwk app counter
   unfolding open_data
   counter_right e = simp (eq-eqb (counter % 65536) (fcnt f) e)
 
-  pub counter_wrong : (counter % 65536 ≡ fcnt f → ⊥) → open_data f nwk app counter ≡ refused_opening (refused 14)
+  pub counter_wrong : (counter % 65536 ≡ fcnt f → ⊥) → open_data f nwk app counter ≡ Err (refused 14)
   unfolding open_data
   counter_wrong n = simp (ne_eqb (counter % 65536) (fcnt f) n)
 
-  -- a reading of another type
-  pub open_other : ((d : DataFrame) → read_of f ≡ Data d → ⊥)
-      → open_of f nwk app counter ≡ refused_opening (other_refusal_of (read_of f))
+  -- what reading refuses, and a frame of another type
+  pub open_other : {r : Refusal} → Err r ≡ data_in (read_of f) → Err r ≡ open_of f nwk app counter
   unfolding open_of
-  open_other h = not_data refused_opening (λ d. open_data f nwk app counter) (read_of f) h
+  open_other e = ap (by_result (λ d. open_data f nwk app counter) Err) e
 
 -- the counter that a reading holds is the frame's
-pub read_fcnt : (f : List ℕ) {d : DataFrame} → read_of f ≡ Data d → d.fcnt ≡ fcnt f
+pub read_fcnt : (f : List ℕ) {d : DataFrame} → read_of f ≡ Ok (Data d) → d.fcnt ≡ fcnt f
 unfolding data_of
 read_fcnt f e = ap (λ (d : DataFrame). d.fcnt) (data_fields f e)

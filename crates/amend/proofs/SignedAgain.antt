@@ -19,8 +19,7 @@ use Rattle.frame.specs.Layout.{fport, payload_start_of}
 use Rattle.frame_security.specs.Security.{stream_at, by_network_key_of}
 use Rattle.frame_security.proofs.SecurityLaws.{stream_at_same, by_same}
 use Rattle.amend.specs.declared.amending.Open.{Open}
-use Rattle.amend.specs.declared.amending.Amended.{Amended}
-use Rattle.amend.specs.Amending.{open_state, stop, payload_length_of, schedule, encrypted_byte, last_place, signed_from, carried, resigned, amended_to, amend_of}
+use Rattle.amend.specs.Amending.{Amended, open_state, stop, payload_length_of, schedule, encrypted_byte, last_place, signed_from, carried, resigned, amended_to, amend_of}
 use Rattle.amend.proofs.Stores.{take-sets, drop-sets}
 use Rattle.amend.proofs.Within.{inside, amend_inside}
 use Rattle.amend.proofs.Merging.{chained_blocks, merged_down, merged_up, signed_same}

@@ -1,22 +1,21 @@
 -- A list of amendments: each in turn gives what storing every byte and signing once from the lowest place gives; and testing
 -- every offset first refuses the lists that amending in turn refuses.
 -- Assumes nothing.
+use Rattle.std.specs.Prelude.{Ok, Err}
 use mathlib.Core.Path.{◌≡◌, refl, sym, ap, ap₂, ◌∙◌, subst}
 use mathlib.Core.Bool.{Bool, true, false}
 use mathlib.Core.List.{List, [], ◌∷◌}
 use Prim.Native.Nat.{ℕ, ◌+◌, ◌-◌, ◌/◌, ◌%◌, ◌≤◌, ◌<◌, min}
 use native.Mathlib.Omega.{arith}
-use lib.Dec.{eqb}
 use lib.ListN.{length, set}
 use borrow.Author.Tests.{lt-ltb}
 use Rattle.base.specs.Bytes.{pick}
 use Rattle.base.proofs.Cases.{by_bool, by_order}
 use Rattle.frame.specs.Layout.{payload_start_of}
-use Rattle.frame.specs.Refusals.{refused, not_refused}
+use Rattle.frame.specs.Refusals.{refused, refusal_in, by_result}
 use Rattle.frame_security.specs.Security.{payload_key_of}
 use Rattle.amend.specs.declared.amending.Open.{Open}
-use Rattle.amend.specs.declared.amending.Amended.{Amended}
-use Rattle.amend.specs.Amending.{open_state, stop, payload_length_of, schedule, encrypted_byte, carried, resigned, amended_to, amend_of}
+use Rattle.amend.specs.Amending.{Amended, open_state, stop, payload_length_of, schedule, encrypted_byte, carried, resigned, amended_to, amend_of}
 use Rattle.amend.specs.AmendmentLists.{amended_by, decoded_all, amend_all_of}
 use Rattle.amend.specs.SignedOnce.{all_inside_of, amend_list_of, stored_all, lowest}
 use Rattle.amend.proofs.Within.{inside, length-within, amend_inside, amend_outside}
@@ -104,15 +103,15 @@ module _ (s : Open) (es : List ℕ) (all : all_inside_of (payload_length_of s) e
 
 module _ (s : Open) (es : List ℕ) where
   pub list_inside : all_inside_of (payload_length_of s) es ≡ true
-      → amend_list_of s es ≡ record { refusal = not_refused; state = amended_by s (decoded_all es) }
+      → amend_list_of s es ≡ record { answer = Ok tt; state = amended_by s (decoded_all es) }
   unfolding amend_list_of
   list_inside h = simp h
 
-  pub list_outside : all_inside_of (payload_length_of s) es ≡ false → amend_list_of s es ≡ record { refusal = refused 15; state = s }
+  pub list_outside : all_inside_of (payload_length_of s) es ≡ false → amend_list_of s es ≡ record { answer = Err (refused 15); state = s }
   unfolding amend_list_of
   list_outside h = simp h
 
-pub list_none : (s : Open) (es : List ℕ) → length es ≡ 0 → amend_list_of s es ≡ record { refusal = not_refused; state = s }
+pub list_none : (s : Open) (es : List ℕ) → length es ≡ 0 → amend_list_of s es ≡ record { answer = Ok tt; state = s }
 unfolding amend_list_of all_inside_of amended_by decoded_all
 list_none s [] e = refl
 list_none s (x ∷ es) e = let none : ⊥ = omega arith in absurd none
@@ -121,49 +120,49 @@ list_none s (x ∷ es) e = let none : ⊥ = omega arith in absurd none
 
 -- none is refused
 turn_inside : (s : Open) (es : List ℕ) → all_inside_of (payload_length_of s) es ≡ true
-    → amend_all_of s es ≡ record { refusal = not_refused; state = amended_by s (decoded_all es) }
+    → amend_all_of s es ≡ record { answer = Ok tt; state = amended_by s (decoded_all es) }
 unfolding amend_all_of amended_by decoded_all
 turn_inside s [] h = refl
 turn_inside s (e ∷ es) h =
     let a = amend_of s (e / 256) (e % 256) in
     let both = inside_head (payload_length_of s) e es h in
     let count = count_kept s (e / 256) (e % 256) both.0 in
-    ap (λ (x : Amended). pick (eqb x.refusal.number 0) (amend_all_of a.state es) a) (amend_inside s (e / 256) (e % 256) both.0)
+    ap (λ (x : Amended). by_result (λ u. amend_all_of a.state es) (λ r. a) x.answer) (amend_inside s (e / 256) (e % 256) both.0)
     ∙ turn_inside a.state es (ap (λ (n : ℕ). all_inside_of n es) count ∙ both.1)
 
 apart : true ≡ false → ⊥
 apart e = let z : ◌≡◌ {A = ℕ} 1 0 = ap (λ (b : Bool). pick b 1 0) e in omega arith
 
 -- one of them is
-turn_outside : (s : Open) (es : List ℕ) → all_inside_of (payload_length_of s) es ≡ false → (amend_all_of s es).refusal ≡ refused 15
+turn_outside : (s : Open) (es : List ℕ) → all_inside_of (payload_length_of s) es ≡ false → (amend_all_of s es).answer ≡ Err (refused 15)
 unfolding amend_all_of all_inside_of
 turn_outside s [] h = absurd (apart h)
 turn_outside s (e ∷ es) h =
     let a = amend_of s (e / 256) (e % 256) in
     by_order (payload_length_of s) (e / 256)
     (λ l.
-    ap (λ (x : Amended). (pick (eqb x.refusal.number 0) (amend_all_of x.state es) x).refusal) (amend_outside s (e / 256) (e % 256) l))
+    ap (λ (x : Amended). (by_result (λ u. amend_all_of x.state es) (λ r. x) x.answer).answer) (amend_outside s (e / 256) (e % 256) l))
     (λ l.
     let count = count_kept s (e / 256) (e % 256) l in
     let rest : all_inside_of (payload_length_of s) es ≡ false =
     sym (ap (λ (b : Bool). pick b (all_inside_of (payload_length_of s) es) false) (lt-ltb (e / 256) (payload_length_of s) l)) ∙ h in
-    ap (λ (x : Amended). (pick (eqb x.refusal.number 0) (amend_all_of a.state es) a).refusal) (amend_inside s (e / 256) (e % 256) l)
+    ap (λ (x : Amended). (by_result (λ u. amend_all_of a.state es) (λ r. a) x.answer).answer) (amend_inside s (e / 256) (e % 256) l)
     ∙ turn_outside a.state es (ap (λ (n : ℕ). all_inside_of n es) count ∙ rest))
 
 -- what both have in common: on a refusal the one gives the state as it was, the other what was amended by then
 pub record Alike (a b : Amended) : Type 0 where
-  pub refusal : a.refusal ≡ b.refusal
-  pub state : a.refusal.number ≡ 0 → a.state ≡ b.state
+  pub answer : a.answer ≡ b.answer
+  pub state : (refusal_in a.answer).number ≡ 0 → a.state ≡ b.state
 
 pub list_alike : (s : Open) (es : List ℕ) → Alike (amend_list_of s es) (amend_all_of s es)
 list_alike s es =
     by_bool (all_inside_of (payload_length_of s) es)
     (λ t.
     let e = list_inside s es t ∙ sym (turn_inside s es t) in
-    record { refusal = ap (λ (x : Amended). x.refusal) e; state = λ z. ap (λ (x : Amended). x.state) e })
+    record { answer = ap (λ (x : Amended). x.answer) e; state = λ z. ap (λ (x : Amended). x.state) e })
     (λ t.
     let e = list_outside s es t in
     record {
-      refusal = ap (λ (x : Amended). x.refusal) e ∙ sym (turn_outside s es t);
-      state = λ z. let none : ⊥ = omega (arith, ap (λ (x : Amended). x.refusal.number) e, z) in absurd none;
+      answer = ap (λ (x : Amended). x.answer) e ∙ sym (turn_outside s es t);
+      state = λ z. let none : ⊥ = omega (arith, ap (λ (x : Amended). (refusal_in x.answer).number) e, z) in absurd none;
     })

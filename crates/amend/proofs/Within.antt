@@ -1,6 +1,7 @@
 -- Where an offset lies inside the payload: the frame has at most 255 bytes and the byte stands ahead of the MIC. Then
 -- what an amendment gives, inside and outside.
 -- Assumes nothing.
+use Rattle.std.specs.Prelude.{Ok, Err}
 use mathlib.Core.Path.{◌≡◌, subst, ap, ap₂, ◌∙◌}
 use mathlib.Core.Bool.{Bool}
 use mathlib.Core.List.{List}
@@ -11,10 +12,9 @@ use borrow.Author.Tests.{le-leb, lt-leb, lt-ltb, le-ltb}
 use Rattle.base.specs.Bytes.{pick}
 use Rattle.base.proofs.Cases.{by_order}
 use Rattle.frame.specs.Layout.{payload_start_of}
-use Rattle.frame.specs.Refusals.{refused, not_refused}
+use Rattle.frame.specs.Refusals.{refused, refusal_in}
 use Rattle.amend.specs.declared.amending.Open.{Open}
-use Rattle.amend.specs.declared.amending.Amended.{Amended}
-use Rattle.amend.specs.Amending.{open_state, stop, payload_length_of, encrypted_byte, carried, resigned, amended_to, amend_of}
+use Rattle.amend.specs.Amending.{Amended, open_state, stop, payload_length_of, encrypted_byte, carried, resigned, amended_to, amend_of}
 
 pub length-within : (s : Open) → s.length ≤ 255 → payload_length_of s ≡ stop s - payload_start_of s.frame
 length-within s h = ap (λ (t : Bool). pick t (stop s - payload_start_of s.frame) 0) (le-leb s.length 255 h)
@@ -54,18 +54,18 @@ amended_is s k v p e hp he hf hc =
 
 -- a refused amendment gives the state that it was given
 pub amend_outside : (s : Open) (k v : ℕ) → payload_length_of s ≤ k
-    → amend_of s k v ≡ record { refusal = refused 15; state = s }
+    → amend_of s k v ≡ record { answer = Err (refused 15); state = s }
 unfolding amend_of
 amend_outside s k v h = simp (le-ltb k (payload_length_of s) h)
 
 pub amend_inside : (s : Open) (k v : ℕ) → k < payload_length_of s
-    → amend_of s k v ≡ record { refusal = not_refused; state = amended_to s k v }
+    → amend_of s k v ≡ record { answer = Ok tt; state = amended_to s k v }
 unfolding amend_of
 amend_inside s k v h = simp (lt-ltb k (payload_length_of s) h)
 
 -- so whatever is refused is refused by 15 and gives the state that it was given
-pub refused_keeps : (s : Open) (k v : ℕ) → ((amend_of s k v).refusal.number ≡ 0 → ⊥)
-    → amend_of s k v ≡ record { refusal = refused 15; state = s }
+pub refused_keeps : (s : Open) (k v : ℕ) → ((refusal_in (amend_of s k v).answer).number ≡ 0 → ⊥)
+    → amend_of s k v ≡ record { answer = Err (refused 15); state = s }
 refused_keeps s k v n =
     by_order (payload_length_of s) k (amend_outside s k v)
-    (λ l. absurd (n (ap (λ (r : Amended). r.refusal.number) (amend_inside s k v l))))
+    (λ l. absurd (n (ap (λ (r : Amended). (refusal_in r.answer).number) (amend_inside s k v l))))

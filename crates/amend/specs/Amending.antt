@@ -3,16 +3,16 @@
 -- afresh. The message of the MIC is B_0, one block, and then the frame up to its MIC, so that the frame's block
 -- i is the message's block i + 1; place i of the chain values is what stands ahead of the frame's block i.
 -- Assumes nothing.
-use Rattle.std.specs.Prelude.{List, ℕ, zero, suc, ◌+◌, ◌-◌, ◌*◌, ◌/◌, leb, ltb, take, set}
+use Rattle.std.specs.Prelude.{List, ℕ, zero, suc, ◌+◌, ◌-◌, ◌*◌, ◌/◌, leb, ltb, take, set, Result, Ok, Err}
 use Rattle.std.proofs.lemmas.List.Edits.{sets}
 use Rattle.base.specs.Bytes.{pick, part, ◌⊕◌, xor_lists}
 use Rattle.aes.specs.Fips197.{cipher}
 use Rattle.cmac.specs.Running.{resumed, absorbed, finished}
 use Rattle.frame.specs.Layout.{payload_start_of}
-use Rattle.frame.specs.Refusals.{refused, not_refused}
+use Rattle.frame.specs.Refusals.{refused}
+use Rattle.frame.specs.declared.refusals.Refusal.{Refusal}
 use Rattle.frame_security.specs.Security.{stream_at, payload_key_of}
 use Rattle.amend.specs.declared.amending.Open.{Open}
-use Rattle.amend.specs.declared.amending.Amended.{Amended}
 
 -- a state by its fields
 abbrev pub open_state : List ℕ → ℕ → List ℕ → List ℕ → ℕ → List ℕ → Open
@@ -68,8 +68,13 @@ amended_to s k v =
     open_state (resigned s.nwk_schedule f (stop s) p s.chains) s.length s.nwk_schedule s.app_schedule
     s.counter (carried s.nwk_schedule f (stop s) p s.chains)
 
+-- what an amendment gives: nothing or a refusal, and the state as it then stands
+pub record Amended : Type 0 where
+  pub answer : Result (Unit {0}) Refusal
+  pub state : Open
+
 -- a payload byte may be set where there is one; elsewhere 15, with the state as it was
 unfoldable pub amend_of : Open → ℕ → ℕ → Amended
 amend_of s k v =
-    pick (ltb k (payload_length_of s)) (record { refusal = not_refused; state = amended_to s k v })
-    (record { refusal = refused 15; state = s })
+    pick (ltb k (payload_length_of s)) (record { answer = Ok tt; state = amended_to s k v })
+    (record { answer = Err (refused 15); state = s })

@@ -1,17 +1,16 @@
 -- Lists of amendments. `amended_by` goes on past a refused amendment, which changes nothing; the call that takes a
 -- frame and a whole list stops at the first refusal, and then changes nothing at all (docs/RULES.md, Amendments).
 -- Assumes nothing.
-use Rattle.std.specs.Prelude.{◌≡◌, List, [], ◌∷◌, ℕ, ◌/◌, ◌%◌, ltb, eqb, length, take, set}
+use Rattle.std.specs.Prelude.{◌≡◌, List, [], ◌∷◌, ℕ, ◌/◌, ◌%◌, ltb, length, take, set, Result, Ok, Err}
 use Rattle.base.specs.Bytes.{pick}
 use Rattle.frame.specs.Layout.{header, payload}
 use Rattle.frame_security.specs.Security.{crypted, frame_key}
 use Rattle.amend.specs.declared.amending.Open.{Open}
-use Rattle.amend.specs.declared.amending.Amended.{Amended}
-use Rattle.frame.specs.Refusals.{not_refused}
+use Rattle.frame.specs.Refusals.{by_result}
 use Rattle.frame.specs.declared.refusals.Refusal.{Refusal}
-use Rattle.amend.specs.Amending.{amend_of}
+use Rattle.amend.specs.Amending.{Amended, amend_of}
 use Rattle.frame_security.specs.Sealing.{sealed}
-use Rattle.amend.specs.OpenFrame.{accepted_opening, open_of}
+use Rattle.amend.specs.OpenFrame.{open_of, state_in}
 
 -- an amendment: a payload offset and the clear value there
 pub record Amendment : Type 0 where
@@ -42,24 +41,20 @@ decoded_all (e ∷ es) = decoded e ∷ decoded_all es
 
 -- the first refusal, or the state after the whole list
 unfoldable pub amend_all_of : Open → List ℕ → Amended
-amend_all_of s [] = record { refusal = not_refused; state = s }
+amend_all_of s [] = record { answer = Ok tt; state = s }
 amend_all_of s (e ∷ es) =
     let a = amend_of s (e / 256) (e % 256) in
-    pick (eqb a.refusal.number 0) (amend_all_of a.state es) a
+    by_result (λ u. amend_all_of a.state es) (λ r. a) a.answer
 
 -- the opening's refusal, or that of the first refused amendment, or none
-unfoldable pub amend_frame_of : List ℕ → List ℕ → List ℕ → ℕ → List ℕ → Refusal
-amend_frame_of f nwk app counter es =
-    let o = open_of f nwk app counter in
-    let a = amend_all_of o.state es in
-    pick (eqb o.refusal.number 0) a.refusal o.refusal
+unfoldable pub amend_frame_of : List ℕ → List ℕ → List ℕ → ℕ → List ℕ → Result (Unit {0}) Refusal
+amend_frame_of f nwk app counter es = by_result (λ s. (amend_all_of s es).answer) Err (open_of f nwk app counter)
 
 -- the frame as it then stands; where anything is refused, as it was
 unfoldable pub amended_frame : List ℕ → List ℕ → List ℕ → ℕ → List ℕ → List ℕ
 amended_frame f nwk app counter es =
-    pick (eqb (amend_frame_of f nwk app counter es).number 0)
-    (take (length f) (amend_all_of (open_of f nwk app counter).state es).state.frame)
-    f
+    by_result (λ u. take (length f) (amend_all_of (state_in (open_of f nwk app counter)) es).state.frame) (λ r. f)
+    (amend_frame_of f nwk app counter es)
 
 -- ---- demand 3
 
@@ -70,4 +65,4 @@ pub record Stands (f nwk app : List ℕ) (counter : ℕ) (list : List Amendment)
   -- as long as the original
   pub long : s.length ≡ length f
   -- and opening that frame gives this state, chain values included
-  pub opens : open_of (take s.length s.frame) nwk app counter ≡ accepted_opening s
+  pub opens : open_of (take s.length s.frame) nwk app counter ≡ Ok s

@@ -5,7 +5,7 @@ ghost use Rattle.frame.specs.Layout.{payload_start_of};
 ghost use Rattle.frame_security.specs.Security.{stream_at, payload_key_of};
 ghost use Rattle.amend.specs.Amending.{last_place, chained, signed_from, carried, resigned, amended_to, amend_of};
 
-use base::storing::{block_at, put};
+use base::storing::{put, run_at};
 use frame::packet_length::{FCTRL_AT, MIC_LEN, PHY_PAYLOAD_MAX_LEN};
 use frame::parser::fhdr_length;
 use frame::refusals::{OFFSET_OUTSIDE, Refusal};
@@ -13,8 +13,7 @@ use frame_security::mic::mic_of;
 use frame_security::securityhelpers::{by_network_key, start_of, stream_block};
 
 // An open frame: the bytes of the frame (zeros behind them) and how many they are, both keys expanded, the whole
-// counter, and what the MIC's chain holds ahead of each 16-byte block of the frame, sixteen bytes each. The state of a
-// refused opening is all zeros.
+// counter, and what the MIC's chain holds ahead of each 16-byte block of the frame, sixteen bytes each.
 #[derive(Clone, Copy)]
 pub struct Open {
     pub frame: [u8; 255],
@@ -23,13 +22,6 @@ pub struct Open {
     pub app_schedule: [u8; 176],
     pub counter: u32,
     pub chains: [u8; 256],
-}
-
-// What an amendment gives: 0 and the amended state, or a refusal and the state that it was given.
-#[derive(Clone, Copy)]
-pub struct Amended {
-    pub refusal: Refusal,
-    pub state: Open,
 }
 
 // The chain values at the places after `from`, up to `to`, each from the one before it and the frame's block there.
@@ -43,13 +35,11 @@ pub(crate) fn carry_on(
     requires { (from ≤ to) × (16 * to ≤ length frame.now) × (16 * to + 16 ≤ length chains.old) × (to ≤ 15) }
     ensures { chains.new ≡ chained schedule.now frame.now (to - from) from chains.old }
 {
-    let mut i = from;
-    while i < to {
-        let chain = block_at(chains, 16 * i);
-        let block = block_at(frame, 16 * i);
+    for i in from..to {
+        let chain = run_at(chains, 16 * i);
+        let block = run_at(frame, 16 * i);
         let next = cmac::next_chain(schedule, chain, block);
         put(chains, 16 * (i + 1), &next);
-        i += 1;
     }
 }
 
@@ -59,7 +49,7 @@ pub(crate) fn sign_from(schedule: &[u8; 176], frame: &[u8], n: usize, chains: &[
     ensures { result ≡ signed_from schedule.now frame.now n chains.now }
 {
     let start = 16 * ((n - 1) / 16);
-    let chain = block_at(chains, start);
+    let chain = run_at(chains, start);
     let expanded = *schedule;
     let tag = cmac::Cmac::resume(expanded, chain)
         .update(&frame[start..n])
@@ -76,22 +66,20 @@ fn mask_at(schedule: &[u8; 176], frame: &[u8], counter: u32, k: usize) -> u8
     stream[k % 16]
 }
 
-// The same under the key of a payload of `count` bytes.
-fn payload_mask(
-    nwk: &[u8; 176],
-    app: &[u8; 176],
+// The schedule of the key of a payload of `count` bytes.
+pub(crate) fn payload_schedule<'a>(
+    nwk: &'a [u8; 176],
+    app: &'a [u8; 176],
     frame: &[u8],
     count: usize,
-    counter: u32,
-    k: usize,
-) -> u8
-    ensures { result
-        ≡ stream_at (payload_key_of frame.now count nwk.now app.now) frame.now counter k }
+) -> &'a [u8; 176]
+    ensures { result.now ≡ payload_key_of frame.now count nwk.now app.now }
 {
     if by_network_key(frame, count) {
-        return mask_at(nwk, frame, counter, k);
+        nwk
+    } else {
+        app
     }
-    mask_at(app, frame, counter, k)
 }
 
 // The frame and its chain values after byte `p` of it was changed, signed anew; `n` bytes are ahead of the MIC.
@@ -121,54 +109,35 @@ pub(crate) fn payload_length(fctrl: u8, total: usize) -> usize
 
 impl Open {
     // The payload byte at the offset set, and the frame signed anew.
-    fn amended(self, offset: usize, value: u8) -> Open
-        requires { (payload_start_of self.frame + offset < self.length - 4) × (self.length ≤ 255) }
-        ensures { result ≡ amended_to self offset value }
+    fn amend_inside(&mut self, offset: usize, value: u8)
+        requires { (payload_start_of self.old.frame + offset < self.old.length - 4) × (self.old.length ≤ 255) }
+        ensures { self.new ≡ amended_to self.old offset value }
     {
-        let mut frame = self.frame;
-        let mut chains = self.chains;
-        let nwk_schedule = self.nwk_schedule;
-        let app_schedule = self.app_schedule;
-        let counter = self.counter;
-        let length = self.length;
-        let p = fhdr_length(frame[FCTRL_AT]) + 2 + offset;
-        let count = payload_length(frame[FCTRL_AT], length);
-        let stream = payload_mask(&nwk_schedule, &app_schedule, &frame, count, counter, offset);
-        frame[p] = value ^ stream;
-        resign(&nwk_schedule, &mut frame, &mut chains, length - 4, p);
-        Open {
-            frame,
-            length,
-            nwk_schedule,
-            app_schedule,
-            counter,
-            chains,
-        }
+        let p = fhdr_length(self.frame[FCTRL_AT]) + 2 + offset;
+        let count = payload_length(self.frame[FCTRL_AT], self.length);
+        let schedule = payload_schedule(&self.nwk_schedule, &self.app_schedule, &self.frame, count);
+        let mask = mask_at(schedule, &self.frame, self.counter, offset);
+        self.frame[p] = value ^ mask;
+        resign(
+            &self.nwk_schedule,
+            &mut self.frame,
+            &mut self.chains,
+            self.length - MIC_LEN,
+            p,
+        );
     }
 
     // Sets the payload byte at the offset to the clear value; the frame is then encrypted and signed anew. 15 where
     // there is no such byte, with the state as it was.
-    pub fn amend(self, offset: usize, value: u8) -> Amended
-        ensures { result ≡ amend_of self offset value }
+    pub fn amend(&mut self, offset: usize, value: u8) -> Result<(), Refusal>
+        ensures value { result ≡ (amend_of self.old offset value).answer }
+        ensures state_after { self.new ≡ (amend_of self.old offset value).state }
     {
-        let total = self.length;
-        let count = payload_length(self.frame[FCTRL_AT], total);
-        if offset < count {
-            let after = self.amended(offset, value);
-            return Amended {
-                refusal: Refusal {
-                    number: 0,
-                    place: 0,
-                },
-                state: after,
-            };
+        let count = payload_length(self.frame[FCTRL_AT], self.length);
+        if count <= offset {
+            return Err(Refusal::of(OFFSET_OUTSIDE));
         }
-        Amended {
-            refusal: Refusal {
-                number: OFFSET_OUTSIDE,
-                place: 0,
-            },
-            state: self,
-        }
+        self.amend_inside(offset, value);
+        Ok(())
     }
 }

@@ -2,48 +2,15 @@
 ghost use Rattle.std.specs.Prelude.{◌≡◌, ◌-◌, ◌≤◌, length};
 ghost use Rattle.frame_security.specs.Security.{covered, message};
 ghost use Rattle.amend.specs.Amending.{last_place};
-ghost use Rattle.amend.specs.OpenFrame.{chains_of, nothing, refused_opening, open_checked_of, open_of};
+ghost use Rattle.amend.specs.OpenFrame.{chains_of, open_checked_of, open_of};
 
 use crate::amending::{Open, carry_on, sign_from};
-use base::storing::{four_at, put};
-use frame::numbers::other_refusal;
+use base::storing::{put, run_at};
 use frame::packet_length::MIC_LEN;
-use frame::parser::{Reading, read};
+use frame::parser::read_as_data;
 use frame::refusals::{COUNTER_MISMATCH, INVALID_MIC, Refusal};
 use frame_security::mic::same_mic;
 use frame_security::securityhelpers::mic_block;
-
-// What opening gives: 0 and the open frame, or a refusal and the state that is all zeros.
-#[derive(Clone, Copy)]
-pub struct Opened {
-    pub refusal: Refusal,
-    pub state: Open,
-}
-
-// The state of a refused opening: all zeros.
-fn no_state() -> Open
-    ensures { result ≡ nothing }
-{
-    let frame = [0u8; 255];
-    let nwk_schedule = [0u8; 176];
-    let app_schedule = [0u8; 176];
-    let chains = [0u8; 256];
-    Open {
-        frame,
-        length: 0,
-        nwk_schedule,
-        app_schedule,
-        counter: 0,
-        chains,
-    }
-}
-
-fn not_opened(refusal: Refusal) -> Opened
-    ensures { result ≡ refused_opening refusal }
-{
-    let state = no_state();
-    Opened { refusal, state }
-}
 
 // The chain values of a frame's MIC ahead of each block of the frame.
 fn chains_of(schedule: &[u8; 176], frame: &[u8], counter: u32) -> [u8; 256]
@@ -60,57 +27,48 @@ fn chains_of(schedule: &[u8; 176], frame: &[u8], counter: u32) -> [u8; 256]
 }
 
 // A data frame whose counter is right: 5 where its MIC is not that of its chain values.
-fn open_checked(frame: &[u8], nwk_skey: [u8; 16], app_skey: [u8; 16], counter: u32) -> Opened
+fn open_checked(
+    frame: &[u8],
+    nwk_skey: [u8; 16],
+    app_skey: [u8; 16],
+    counter: u32,
+) -> Result<Open, Refusal>
     requires { (12 ≤ length frame.now) × (length frame.now ≤ 255) }
     ensures { result ≡ open_checked_of frame.now nwk_skey app_skey counter }
 {
     let nwk_schedule = aes::key_expansion::expand(nwk_skey);
     let chains = chains_of(&nwk_schedule, frame, counter);
     let mic = sign_from(&nwk_schedule, frame, frame.len() - MIC_LEN, &chains);
-    let given = four_at(frame, frame.len() - MIC_LEN);
-    if same_mic(mic, given) {
-        let app_schedule = aes::key_expansion::expand(app_skey);
-        let mut held = [0u8; 255];
-        put(&mut held, 0, frame);
-        let state = Open {
-            frame: held,
-            length: frame.len(),
-            nwk_schedule,
-            app_schedule,
-            counter,
-            chains,
-        };
-        return Opened {
-            refusal: Refusal {
-                number: 0,
-                place: 0,
-            },
-            state,
-        };
+    let given = run_at(frame, frame.len() - MIC_LEN);
+    if !same_mic(mic, given) {
+        return Err(Refusal::of(INVALID_MIC));
     }
-    not_opened(Refusal {
-        number: INVALID_MIC,
-        place: 0,
+    let app_schedule = aes::key_expansion::expand(app_skey);
+    let mut held = [0u8; 255];
+    put(&mut held, 0, frame);
+    Ok(Open {
+        frame: held,
+        length: frame.len(),
+        nwk_schedule,
+        app_schedule,
+        counter,
+        chains,
     })
 }
 
 // Opens a data frame for amendments. Refused are what reading refuses, at its place, 4 for a frame of another type,
 // 14 where the counter's low half is not the frame's, and 5 where the MIC differs.
-pub fn open_frame(frame: &[u8], nwk_skey: [u8; 16], app_skey: [u8; 16], counter: u32) -> Opened
+pub fn open_frame(
+    frame: &[u8],
+    nwk_skey: [u8; 16],
+    app_skey: [u8; 16],
+    counter: u32,
+) -> Result<Open, Refusal>
     ensures { result ≡ open_of frame.now nwk_skey app_skey counter }
 {
-    let reading = read(frame);
-    let Reading::Data(data) = reading else {
-        return not_opened(other_refusal(reading));
-    };
-    let fcnt = data.fcnt;
-    let given = counter % 65536;
-    let held = fcnt as u32;
-    if given == held {
-        return open_checked(frame, nwk_skey, app_skey, counter);
+    let data = read_as_data(frame)?;
+    if counter % 65536 != data.fcnt as u32 {
+        return Err(Refusal::of(COUNTER_MISMATCH));
     }
-    not_opened(Refusal {
-        number: COUNTER_MISMATCH,
-        place: 0,
-    })
+    open_checked(frame, nwk_skey, app_skey, counter)
 }

@@ -1,5 +1,6 @@
--- The calls on a buffer, by what the calls on its state gave and the bytes that were stored.
+-- The frame taken out of a buffer, by its length and the bytes that were stored.
 -- Assumes nothing.
+use Rattle.std.specs.Prelude.{Ok, Err, Result}
 use mathlib.Core.Path.{◌≡◌, sym, ap, ◌∙◌}
 use mathlib.Core.Bool.{Bool}
 use mathlib.Core.List.{List}
@@ -7,28 +8,17 @@ use Prim.Native.Nat.{ℕ, ◌≤◌, ◌<◌}
 use lib.Dec.{leb}
 use lib.ListN.{length, take}
 use lib.Seq.{sets, take-take}
-use borrow.Author.Tests.{eq-eqb, ne_eqb, le-leb, lt-leb}
+use borrow.Author.Tests.{le-leb, lt-leb}
 use Rattle.base.specs.Bytes.{pick, at, part}
-use Rattle.frame.specs.Refusals.{refused, not_refused}
+use Rattle.frame.specs.Refusals.{refused}
 use Rattle.frame.specs.declared.refusals.Refusal.{Refusal}
-use Rattle.amend.specs.declared.amending.Open.{Open}
-use Rattle.amend_held.specs.declared.calls.Taken.{Taken}
-use Rattle.amend_held.specs.HeldBuffer.{stored_open, loaded_open}
-use Rattle.amend_held.specs.HeldCalls.{settled, taken_of, taken_into}
-
-module _ (r : Refusal) (s : Open) (b : List ℕ) where
-  pub settled-stored : {bytes : List ℕ} → r.number ≡ 0 → bytes ≡ stored_open s → bytes ≡ settled r s b
-  unfolding settled
-  settled-stored z h = h ∙ sym (ap (λ (t : Bool). pick t (stored_open s) b) (eq-eqb r.number 0 z))
-
-  pub settled_left : (r.number ≡ 0 → ⊥) → b ≡ settled r s b
-  unfolding settled
-  settled_left n = sym (ap (λ (t : Bool). pick t (stored_open s) b) (ne_eqb r.number 0 n))
+use Rattle.amend_held.specs.HeldBuffer.{loaded_open}
+use Rattle.amend_held.specs.HeldCalls.{taken_of, taken_into}
 
 -- the frame that the buffer b holds, taken out into l
 module _ (b l : List ℕ) (n : ℕ) (e : n ≡ at b 255) where
-  abbrev answer : Bool → Taken
-  answer t = pick t (record { refusal = not_refused; length = n }) (record { refusal = refused 7; length = 0 })
+  abbrev answer : Bool → Result ℕ Refusal
+  answer t = pick t (Ok n) (Err (refused 7))
 
   abbrev output : Bool → List ℕ
   output t = pick t (sets l 0 (take n (part 0 255 b))) l
@@ -37,19 +27,16 @@ module _ (b l : List ℕ) (n : ℕ) (e : n ≡ at b 255) where
       → (answer t ≡ taken_of (loaded_open b) (length l)) × (output t ≡ taken_into (loaded_open b) l)
   unfolding taken_of taken_into loaded_open
   by_length t h = (
-    sym (ap answer h)
-        ∙ ap
-        (λ (m : ℕ). pick (leb m (length l)) (record { refusal = not_refused; length = m }) (record { refusal = refused 7; length = 0 }))
-        e,
+    sym (ap answer h) ∙ ap (λ (m : ℕ). pick (leb m (length l)) (Ok m) (Err (refused 7))) e,
     sym (ap output h) ∙ ap (λ (m : ℕ). pick (leb m (length l)) (sets l 0 (take m (part 0 255 b))) l) e,
   )
 
   pub taken_short : length l < n
-      → (record { refusal = refused 7; length = 0 } ≡ taken_of (loaded_open b) (length l)) × (l ≡ taken_into (loaded_open b) l)
+      → (Err (refused 7) ≡ taken_of (loaded_open b) (length l)) × (l ≡ taken_into (loaded_open b) l)
   taken_short h = by_length _ (lt-leb n (length l) h)
 
   pub taken_whole : {o : List ℕ} → n ≤ length l → n ≤ 255 → o ≡ sets l 0 (take n b)
-      → (record { refusal = not_refused; length = n } ≡ taken_of (loaded_open b) (length l)) × (o ≡ taken_into (loaded_open b) l)
+      → (Ok n ≡ taken_of (loaded_open b) (length l)) × (o ≡ taken_into (loaded_open b) l)
   taken_whole h small q =
       let both = by_length _ (le-leb n (length l) h) in
       (both.0, q ∙ ap (sets l 0) (sym (take-take n 255 b small)) ∙ both.1)

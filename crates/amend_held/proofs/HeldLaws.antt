@@ -2,12 +2,11 @@
 -- Assumes nothing.
 use mathlib.Core.Path.{◌≡◌, sym, ap, ap₂, ◌∙◌}
 use mathlib.Core.List.{List, [], ◌∷◌, ◌++◌}
-use Prim.Native.Nat.{ℕ, ◌+◌, ◌-◌, ◌%◌, ◌≤◌}
+use Prim.Native.Nat.{ℕ, ◌+◌, ◌%◌, ◌≤◌}
 use native.Mathlib.Omega.{arith}
 use lib.ListN.{length, length-append}
 use lib.Seq.{sets}
 use Rattle.base.specs.Bytes.{at, part, four_bytes_of, from_four_bytes}
-use Rattle.base.proofs.Lent.{part_long}
 use Rattle.base.proofs.Put.{sets-append}
 use Rattle.base.proofs.StoringLaws.{run_inside}
 use Rattle.base.specs.Storing.{run_at}
@@ -15,13 +14,6 @@ use Rattle.amend.specs.declared.amending.Open.{Open}
 use Rattle.amend.specs.Amending.{open_state}
 use Rattle.amend.proofs.ListLaws.{whole_stored}
 use Rattle.amend_held.specs.HeldBuffer.{stored_open, loaded_open}
-
--- a run of bytes that is copied over a whole array
-pub copied : (z f : List ℕ) (at n : ℕ) {e : List ℕ} → length z ≡ n → at + n ≤ length f → e ≡ sets z 0 (part at (at + n - at) f)
-    → e ≡ part at n f
-copied z f at n l h q =
-    let same : at + n - at ≡ n = omega arith in
-    q ∙ ap (λ (k : ℕ). sets z 0 (part at k f)) same ∙ whole_stored z (part at n f) (part_long at n f h ∙ sym l)
 
 -- one run of bytes behind another, from the start
 joined : (z s t : List ℕ) (i : ℕ) {d e : List ℕ} → length s ≡ i → d ≡ sets z 0 s → e ≡ sets d i t → e ≡ sets z 0 (s ++ t)
@@ -80,12 +72,13 @@ module _ (s : Open) (h : Sized s) where
       ∙ whole_stored z (whole ++ four_bytes_of s.counter) (long ∙ sym lz)
 
 -- a state of the fields that the code takes out
-pub loaded_is : (b : List ℕ) {f w a h c : List ℕ} {k n : ℕ} → length b ≡ 868 → n ≡ at b 255 → f ≡ part 0 255 b
-    → w ≡ part 256 176 b → a ≡ part 432 176 b → h ≡ part 608 256 b → c ≡ run_at 4 b 864 → k ≡ from_four_bytes c
+pub loaded_is : (b : List ℕ) {f w a h c : List ℕ} {k n : ℕ} → length b ≡ 868 → n ≡ at b 255 → f ≡ run_at 255 b 0
+    → w ≡ run_at 176 b 256 → a ≡ run_at 176 b 432 → h ≡ run_at 256 b 608 → c ≡ run_at 4 b 864 → k ≡ from_four_bytes c
     → open_state f n w a k h ≡ loaded_open b
 unfolding loaded_open
 loaded_is b {f} {w} {a} {h} {c} {k} {n} long hn hf hw ha hh hc hk =
-    let count : k ≡ from_four_bytes (part 864 4 b) = hk ∙ ap from_four_bytes (hc ∙ run_inside 4 b 864 (omega arith)) in
-    ap₂ (λ (x y : List ℕ). open_state x n y a k h) hf hw
-    ∙ ap₂ (λ (x y : List ℕ). open_state (part 0 255 b) n (part 256 176 b) x k y) ha hh
+    let run : (n i : ℕ) → i + n ≤ length b → run_at n b i ≡ part i n b = λ n i l. run_inside n b i l in
+    let count : k ≡ from_four_bytes (part 864 4 b) = hk ∙ ap from_four_bytes (hc ∙ run 4 864 (omega arith)) in
+    ap₂ (λ (x y : List ℕ). open_state x n y a k h) (hf ∙ run 255 0 (omega arith)) (hw ∙ run 176 256 (omega arith))
+    ∙ ap₂ (λ (x y : List ℕ). open_state (part 0 255 b) n (part 256 176 b) x k y) (ha ∙ run 176 432 (omega arith)) (hh ∙ run 256 608 (omega arith))
     ∙ ap₂ (λ (m o : ℕ). open_state (part 0 255 b) m (part 256 176 b) (part 432 176 b) o (part 608 256 b)) hn count

@@ -12,8 +12,7 @@ use Rattle.aes.specs.KeyExpansion.{word, next_word_of, words, key_expansion_of}
 use Rattle.frame.specs.Layout.{payload_start_of}
 use Rattle.frame_security.specs.Security.{covered, message}
 use Rattle.amend.specs.declared.amending.Open.{Open}
-use Rattle.amend.specs.declared.amending.Amended.{Amended}
-use Rattle.amend.specs.Amending.{stop, payload_length_of, encrypted_byte, last_place, signed_from, carried, amended_to, amend_of}
+use Rattle.amend.specs.Amending.{Amended, stop, payload_length_of, encrypted_byte, last_place, signed_from, carried, amended_to, amend_of}
 use Rattle.amend.specs.OpenFrame.{opened_of}
 use Rattle.amend.specs.AmendmentLists.{Amendment, amended_by}
 use Rattle.amend.proofs.Chains.{chained_long, chains_of_long}

@@ -1,35 +1,31 @@
 -- What the calls on a buffer leave in it and give, by the calls on the state that it holds (docs/RULES.md, Amendments), and
 -- a history of such calls. They model the code; `held_state` in proofs/Demand3Held.antt ties them to demand 3.
 -- Assumes nothing.
-use Rattle.std.specs.Prelude.{List, [], ◌∷◌, ◌++◌, ℕ, eqb, leb, length, take}
+use Rattle.std.specs.Prelude.{List, [], ◌∷◌, ◌++◌, ℕ, leb, length, take, Result, Ok, Err}
 use Rattle.std.proofs.lemmas.List.Edits.{sets}
 use Rattle.base.specs.Bytes.{pick}
-use Rattle.frame.specs.Refusals.{refused, not_refused}
+use Rattle.frame.specs.Refusals.{refused, by_result}
 use Rattle.frame.specs.declared.refusals.Refusal.{Refusal}
 use Rattle.amend.specs.declared.amending.Open.{Open}
-use Rattle.amend.specs.declared.amending.Amended.{Amended}
-use Rattle.amend.specs.declared.opening.Opened.{Opened}
-use Rattle.amend.specs.Amending.{amend_of}
+use Rattle.amend.specs.Amending.{Amended, amend_of}
 use Rattle.amend.specs.AmendmentLists.{Amendment, decoded_all}
 use Rattle.amend.specs.SignedOnce.{amend_list_of}
-use Rattle.amend_held.specs.declared.calls.Taken.{Taken}
 use Rattle.amend_held.specs.HeldBuffer.{stored_open, loaded_open}
 
--- the buffer b after a call that gave the state s: as it was where that is refused
-unfoldable pub settled : Refusal → Open → List ℕ → List ℕ
-settled r s b = pick (eqb r.number 0) (stored_open s) b
+-- what a call answers that keeps the state: a refusal, or nothing
+abbrev pub answer_in : Result Open Refusal → Result (Unit {0}) Refusal
+answer_in o = by_result (λ s. Ok tt) Err o
 
-abbrev pub opened_into : Opened → List ℕ → List ℕ
-opened_into o b = settled o.refusal o.state b
+-- the buffer b after a call that gave a state: as it was where that is refused
+abbrev pub opened_into : Result Open Refusal → List ℕ → List ℕ
+opened_into o b = by_result stored_open (λ r. b) o
 
 abbrev pub amended_into : Amended → List ℕ → List ℕ
-amended_into a b = settled a.refusal a.state b
+amended_into a b = by_result (λ u. stored_open a.state) (λ r. b) a.answer
 
 -- the frame of a state taken out into a string of so many bytes: how many it has, or 7 where it does not fit
-unfoldable pub taken_of : Open → ℕ → Taken
-taken_of s room =
-    pick (leb s.length room) (record { refusal = not_refused; length = s.length })
-    (record { refusal = refused 7; length = 0 })
+unfoldable pub taken_of : Open → ℕ → Result ℕ Refusal
+taken_of s room = pick (leb s.length room) (Ok s.length) (Err (refused 7))
 
 unfoldable pub taken_into : Open → List ℕ → List ℕ
 taken_into s l = pick (leb s.length (length l)) (sets l 0 (take s.length s.frame)) l
@@ -64,4 +60,4 @@ held_by_of b (c ∷ calls) = held_by_of (held_after b c) calls
 unfoldable pub made_by : List ℕ → List Call → List Amendment
 made_by b [] = []
 made_by b (c ∷ calls) =
-    pick (eqb (given c (loaded_open b)).refusal.number 0) (amendments c) [] ++ made_by (held_after b c) calls
+    by_result (λ u. amendments c) (λ r. []) (given c (loaded_open b)).answer ++ made_by (held_after b c) calls

@@ -5,31 +5,13 @@ ghost use Rattle.amend.specs.Amending.{amend_of};
 ghost use Rattle.amend.specs.OpenFrame.{open_of};
 ghost use Rattle.amend.specs.SignedOnce.{amend_list_of};
 ghost use Rattle.amend_held.specs.HeldBuffer.{loaded_open};
-ghost use Rattle.amend_held.specs.HeldCalls.{settled, opened_into, amended_into, taken_of, taken_into};
+ghost use Rattle.amend_held.specs.HeldCalls.{answer_in, opened_into, amended_into, taken_of, taken_into};
 
 use crate::buffer::{LENGTH_AT, load, store};
-use amend::amending::Open;
 use amend::list::amend_list;
 use amend::opening::open_frame;
-use base::storing::{put, wide};
+use base::storing::put;
 use frame::refusals::{BUFFER_TOO_SHORT, Refusal};
-
-// What taking the frame out gives: 0 and how many bytes it has, or a refusal.
-#[derive(Clone, Copy)]
-pub struct Taken {
-    pub refusal: Refusal,
-    pub length: usize,
-}
-
-// Stores a state where it is not refused.
-fn settle(refusal: Refusal, state: Open, buffer: &mut [u8; 868])
-    ensures { buffer.new ≡ settled refusal state buffer.old }
-{
-    if refusal.number == 0 {
-        let bytes = store(state);
-        *buffer = bytes;
-    }
-}
 
 // Opens a frame into a buffer, with the refusals of `open_frame`.
 pub fn open_into(
@@ -38,74 +20,48 @@ pub fn open_into(
     app_skey: [u8; 16],
     counter: u32,
     buffer: &mut [u8; 868],
-) -> Refusal
-    ensures value { result ≡ (open_of frame.now nwk_skey app_skey counter).refusal }
+) -> Result<(), Refusal>
+    ensures value { result ≡ answer_in (open_of frame.now nwk_skey app_skey counter) }
     ensures buffer_after { buffer.new
         ≡ opened_into (open_of frame.now nwk_skey app_skey counter) buffer.old }
 {
-    let opening = open_frame(frame, nwk_skey, app_skey, counter);
-    let refusal = opening.refusal;
-    let state = opening.state;
-    settle(refusal, state, buffer);
-    refusal
+    let state = open_frame(frame, nwk_skey, app_skey, counter)?;
+    *buffer = store(state);
+    Ok(())
 }
 
 // Sets one payload byte of the frame that a buffer holds; 15 where there is no such byte.
-pub fn amend_held(buffer: &mut [u8; 868], offset: usize, value: u8) -> Refusal
-    ensures value { result ≡ (amend_of (loaded_open buffer.old) offset value).refusal }
+pub fn amend_held(buffer: &mut [u8; 868], offset: usize, value: u8) -> Result<(), Refusal>
+    ensures value { result ≡ (amend_of (loaded_open buffer.old) offset value).answer }
     ensures buffer_after { buffer.new ≡ amended_into (amend_of (loaded_open buffer.old) offset value) buffer.old }
 {
-    let bytes = *buffer;
-    let next = load(bytes).amend(offset, value);
-    let refusal = next.refusal;
-    let state = next.state;
-    settle(refusal, state, buffer);
-    refusal
+    let mut state = load(*buffer);
+    state.amend(offset, value)?;
+    *buffer = store(state);
+    Ok(())
 }
 
 // The same with a list of amendments, each a number offset * 256 + value; where any is refused, none is made.
-pub fn amend_list_held(buffer: &mut [u8; 868], amendments: &[u32]) -> Refusal
-    ensures value { result ≡ (amend_list_of (loaded_open buffer.old) amendments.now).refusal }
+pub fn amend_list_held(buffer: &mut [u8; 868], amendments: &[u32]) -> Result<(), Refusal>
+    ensures value { result ≡ (amend_list_of (loaded_open buffer.old) amendments.now).answer }
     ensures buffer_after { buffer.new
         ≡ amended_into (amend_list_of (loaded_open buffer.old) amendments.now) buffer.old }
 {
-    let bytes = *buffer;
-    let next = amend_list(load(bytes), amendments);
-    let refusal = next.refusal;
-    let state = next.state;
-    settle(refusal, state, buffer);
-    refusal
+    let mut state = load(*buffer);
+    amend_list(&mut state, amendments)?;
+    *buffer = store(state);
+    Ok(())
 }
 
-fn copy_out(bytes: [u8; 868], out: &mut [u8]) -> Taken
-    ensures value { result ≡ taken_of (loaded_open bytes) (length out.old) }
-    ensures out_after { out.new ≡ taken_into (loaded_open bytes) out.old }
-{
-    let n = wide(bytes[LENGTH_AT]);
-    if out.len() < n {
-        return Taken {
-            refusal: Refusal {
-                number: BUFFER_TOO_SHORT,
-                place: 0,
-            },
-            length: 0,
-        };
-    }
-    put(out, 0, &bytes[..n]);
-    Taken {
-        refusal: Refusal {
-            number: 0,
-            place: 0,
-        },
-        length: n,
-    }
-}
-
-// Copies the frame that a buffer holds to the start of `out`; 7 where it does not fit.
-pub fn frame_of(buffer: &[u8; 868], out: &mut [u8]) -> Taken
+// Copies the frame that a buffer holds to the start of `out`, and answers how many bytes it has; 7 where it does not fit.
+pub fn frame_of(buffer: &[u8; 868], out: &mut [u8]) -> Result<usize, Refusal>
     ensures value { result ≡ taken_of (loaded_open buffer.now) (length out.old) }
     ensures out_after { out.new ≡ taken_into (loaded_open buffer.now) out.old }
 {
-    let bytes = *buffer;
-    copy_out(bytes, out)
+    let n = usize::from(buffer[LENGTH_AT]);
+    if out.len() < n {
+        return Err(Refusal::of(BUFFER_TOO_SHORT));
+    }
+    put(out, 0, &buffer[..n]);
+    Ok(n)
 }

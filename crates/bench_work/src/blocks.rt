@@ -1,4 +1,5 @@
-// 200,000 blocks of AES-128 under one schedule, each made of the one before.
+// 200,000 blocks of AES-128 under one schedule, each made of the one before. Both ways stand in full, by loops: one function that
+// takes the cipher, or a fold, would have three instructions more a block, and they would be counted.
 use crate::KEY;
 
 pub(crate) fn encrypted() -> [u8; 16] {

@@ -10,20 +10,19 @@ mod frames;
 
 pub(crate) const KEY: [u8; 16] = [0, 1, 2, 3, 4, 5, 6, 7, 8, 9, 10, 11, 12, 13, 14, 15];
 
-fn wide(b: u8) -> u64 {
-    b as u64
-}
-
-fn put_digits<W: Write>(out: &mut W, bytes: &[u8]) -> io::Result<()> {
-    for b in bytes {
-        write!(out, "{:02x}", wide(*b))?;
-    }
-    Ok(())
-}
-
 fn hex_line<W: Write>(out: &mut W, bytes: &[u8]) -> io::Result<()> {
-    put_digits(out, bytes)?;
-    out.write_all(b"\n")
+    for b in bytes {
+        write!(out, "{b:02x}")?;
+    }
+    writeln!(out)
+}
+
+// A refusal leaves no line.
+fn amended_line<W: Write>(out: &mut W, offset: usize, turns: usize) -> io::Result<()> {
+    match frames::amendments(offset, turns) {
+        Ok(frame) => hex_line(out, &frame),
+        Err(_) => Ok(()),
+    }
 }
 
 // Nothing comes of another letter. There is one letter to a run: a loop around the work would change what the compiler
@@ -34,9 +33,9 @@ fn work<W: Write>(out: &mut W, letter: u8) -> io::Result<()> {
         b'd' => hex_line(out, &blocks::decrypted()),
         b'm' => hex_line(out, &frames::tags()),
         b's' => hex_line(out, &frames::mics()),
-        b'f' => hex_line(out, &frames::amendments(frames::longest(), 0, 1000)),
-        b'l' => hex_line(out, &frames::amendments(frames::longest(), 241, 1000)),
-        b'o' => hex_line(out, &frames::amendments(frames::longest(), 0, 0)),
+        b'f' => amended_line(out, 0, 1000),
+        b'l' => amended_line(out, 241, 1000),
+        b'o' => amended_line(out, 0, 0),
         _ => Ok(()),
     }
 }

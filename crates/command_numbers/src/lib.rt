@@ -7,7 +7,8 @@ ghost use Rattle.mac_commands.specs.Layout.{row, fields_of};
 ghost use Rattle.mac_commands.specs.Commands.{fields_written, fields_in};
 ghost use Rattle.command_numbers.specs.Numbers.{signed_of, six_of, unsigned_of, id_of_number, bits_of_number, id_given, values_given};
 
-use mac_commands::maccommandcreator::{Written, raw_of, write_fields};
+use frame::refusals::Refusal;
+use mac_commands::maccommandcreator::{raw_of, write_fields};
 use mac_commands::maccommands::{margin_of, values_of};
 
 // The row and the identifier of DevStatusAns, the one command with a signed value, which is its second.
@@ -85,7 +86,12 @@ fn bits_of(uplink: bool, id: u8, z: i64) -> u32
 }
 
 // Writes the command of six numbers for a direction, from a place on, and answers the place past it. A refusal writes nothing.
-pub fn write_numbers(uplink: bool, numbers: [i64; 6], out: &mut [u8], at: usize) -> Written
+pub fn write_numbers(
+    uplink: bool,
+    numbers: [i64; 6],
+    out: &mut [u8],
+    at: usize,
+) -> Result<usize, Refusal>
     ensures value { result ≡ fields_written uplink (id_given numbers) (values_given uplink numbers) (length out.old) at }
     ensures out_after { out.new ≡ fields_in uplink (id_given numbers) (values_given uplink numbers) out.old at }
 {

@@ -1,6 +1,7 @@
 -- Each field comes back out of a packed number by a shift and a mask: one law over the field's index, and what it says of
 -- a reading.
 -- Assumes nothing.
+use Rattle.std.specs.Prelude.{Err, Ok}
 use mathlib.Core.Path.{◌≡◌, sym, ap, ◌∙◌, subst}
 use mathlib.Core.Bool.{Bool, true, false}
 use mathlib.Core.List.{List, [], ◌∷◌}
@@ -19,8 +20,8 @@ use Rattle.frame.specs.PackedReading.{Bits, packed, nth, bit_at, Fit, payload_at
 use Rattle.frame.specs.declared.parser.FrmPayload.{FrmPayload}
 use Rattle.frame.specs.declared.parser.FrmPayload.TheVariants.{Nothing, Data as PlainData, MacCommands}
 use Rattle.frame.specs.declared.parser.DataFrame.{DataFrame}
-use Rattle.frame.specs.declared.parser.Reading.{Reading}
-use Rattle.frame.specs.declared.parser.Reading.TheVariants.{JoinRequest, JoinAccept, Data, Refused}
+use Rattle.frame.specs.Reading.{Reading}
+use Rattle.frame.specs.declared.parser.Frame.TheVariants.{JoinRequest, JoinAccept, Data}
 use Rattle.frame.proofs.ReadingSteps as steps
 use Rattle.frame.proofs.ReadingLaws.{Says, answers, reads_data, given-number}
 use Rattle.frame.proofs.PackedLaws.{start}
@@ -62,13 +63,13 @@ module _ (f : List ℕ) (b : AreBytes f) where
       (omega arith, (omega arith, (bit-fits (port_given_of (port_of f)), (kind_fits (payload_of f), (omega arith, (port_fits, (omega arith, (omega arith, (omega arith, (omega arith, tt))))))))))
 
   reading_fits : (r : Reading) → Says f r → Fit (bits_of r)
-  reading_fits JoinRequest s =
+  reading_fits (Ok JoinRequest) s =
       (omega arith, (omega arith, (omega arith, (omega arith, (omega arith, (omega arith, (omega arith, (omega arith, (omega arith, (omega arith, tt))))))))))
-  reading_fits (JoinAccept n) s =
+  reading_fits (Ok (JoinAccept n)) s =
       let l : n < 256 = ⊎_elim (λ q. omega arith) (λ q. omega arith) s.either in
       (omega arith, (omega arith, (omega arith, (omega arith, (omega arith, (omega arith, (omega arith, (omega arith, (omega arith, (omega arith, tt))))))))))
-  reading_fits (Data d) s = subst (λ (x : DataFrame). Fit (bits_of_data x)) (sym s.1) (data_fits s.0)
-  reading_fits (Refused r) s = ((given-number f r s).1, (omega arith, tt))
+  reading_fits (Ok (Data d)) s = subst (λ (x : DataFrame). Fit (bits_of_data x)) (sym s.1) (data_fits s.0)
+  reading_fits (Err r) s = ((given-number f r s).1, (omega arith, tt))
 
   -- ---- every field of what reading answers, whatever it is
 
@@ -81,10 +82,10 @@ module _ (f : List ℕ) (b : AreBytes f) where
   -- the low byte is the number of the reading, 0 where it is accepted
   number_of_lem : (r : Reading) → Says f r → packed_of r % 256 ≡ number_of r
   unfolding packed_of
-  number_of_lem JoinRequest s = omega arith
-  number_of_lem (JoinAccept n) s = omega arith
-  number_of_lem (Data d) s = omega arith
-  number_of_lem (Refused r) s =
+  number_of_lem (Ok JoinRequest) s = omega arith
+  number_of_lem (Ok (JoinAccept n)) s = omega arith
+  number_of_lem (Ok (Data d)) s = omega arith
+  number_of_lem (Err r) s =
       let l = (given-number f r s).1 in
       omega arith
 

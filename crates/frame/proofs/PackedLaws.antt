@@ -1,5 +1,6 @@
 -- What the packed number of each reading is as a sum, in the words of the code.
 -- Assumes nothing.
+use Rattle.std.specs.Prelude.{Err, Ok}
 use mathlib.Core.Path.{◌≡◌, refl, sym, ap, ◌∙◌}
 use mathlib.Core.List.{List}
 use mathlib.Core.Logic.{⊎_elim}
@@ -15,8 +16,8 @@ use Rattle.frame.specs.Reading.{payload_of, data_of, read_of}
 use Rattle.frame.specs.Conditions.{IsData}
 use Rattle.frame.specs.PackedReading.{packed, accepted, bits_of_join, packed_of, numbered, payload_at, port_bits_of}
 use Rattle.frame.specs.declared.refusals.Refusal.{Refusal}
-use Rattle.frame.specs.declared.parser.Reading.{Reading}
-use Rattle.frame.specs.declared.parser.Reading.TheVariants.{JoinRequest, JoinAccept, Refused}
+use Rattle.frame.specs.Reading.{Reading}
+use Rattle.frame.specs.declared.parser.Frame.TheVariants.{JoinRequest, JoinAccept}
 use Rattle.frame.proofs.ReadingLaws.{reads_data, accept_read}
 use Rattle.frame.proofs.ReadingSteps as steps
 
@@ -28,7 +29,7 @@ pub flat : (t g k p s m c n : ℕ)
 flat t g k p s m c n = omega arith
 
 -- a refused reading is its number with its place above it
-pub flat_refused : (r : Refusal) → numbered r.number r.place ≡ packed_of (Refused r)
+pub flat_refused : (r : Refusal) → numbered r.number r.place ≡ packed_of (Err r)
 unfolding packed_of numbered
 flat_refused r = refl
 
@@ -36,16 +37,16 @@ pub flat_join : (t n : ℕ) → t * 256 + (n - 4) * 4311744512 ≡ packed (bits_
 flat_join t n = omega arith
 
 -- a reading that is a join message
-pub request_is : {r : Reading} {x : ℕ} → r ≡ JoinRequest → x ≡ packed (bits_of_join 0 23) → x ≡ packed_of r
+pub request_is : {r : Reading} {x : ℕ} → r ≡ (Ok JoinRequest) → x ≡ packed (bits_of_join 0 23) → x ≡ packed_of r
 unfolding packed_of
 request_is e q = q ∙ sym (ap packed_of e)
 
-pub accept_is : {r : Reading} {n x : ℕ} → r ≡ JoinAccept n → x ≡ packed (bits_of_join 1 n) → x ≡ packed_of r
+pub accept_is : {r : Reading} {n x : ℕ} → r ≡ Ok (JoinAccept n) → x ≡ packed (bits_of_join 1 n) → x ≡ packed_of r
 unfolding packed_of
 accept_is e q = q ∙ sym (ap packed_of e)
 
 -- and the length that it may have
-pub accept_within : (f : List ℕ) {n : ℕ} → read_of f ≡ JoinAccept n → (4 ≤ n) × (n < 256)
+pub accept_within : (f : List ℕ) {n : ℕ} → read_of f ≡ Ok (JoinAccept n) → (4 ≤ n) × (n < 256)
 accept_within f e = ⊎_elim (λ q. (omega arith, omega arith)) (λ q. (omega arith, omega arith)) (accept_read f e).either
 
 -- ---- a data frame

@@ -1,6 +1,7 @@
 -- What an answer of the reader says of the frame, and which frames get which answer. One statement, `answers`, goes
 -- through the tests of reading once and says of every answer what holds of the frame; the laws take it apart.
 -- Assumes nothing.
+use Rattle.std.specs.Prelude.{Err, Ok}
 use mathlib.Core.Path.{◌≡◌, refl, sym, ap, ◌∙◌, subst}
 use mathlib.Core.List.{List}
 use mathlib.Core.Logic.{inl, inr, ⊎_elim}
@@ -14,8 +15,8 @@ use Rattle.frame.specs.Reading.{refuse, data_of, read_of}
 use Rattle.frame.specs.Conditions.{IsJoinRequest, IsJoinAccept, IsData, WrongJoinLength, request, accept, Found, Gives}
 use Rattle.frame.specs.declared.refusals.Refusal.{Refusal}
 use Rattle.frame.specs.declared.parser.DataFrame.{DataFrame}
-use Rattle.frame.specs.declared.parser.Reading.{Reading}
-use Rattle.frame.specs.declared.parser.Reading.TheVariants.{JoinRequest, JoinAccept, Data, Refused}
+use Rattle.frame.specs.Reading.{Reading}
+use Rattle.frame.specs.declared.parser.Frame.TheVariants.{JoinRequest, JoinAccept, Data}
 use Rattle.frame.proofs.ReadingSteps as steps
 
 -- ---- from the frame to its answer
@@ -35,28 +36,28 @@ reads_fault f header h =
     ∙ steps.type_data f h.data_frame h.not_3
     ∙ steps.data_wrong f h.short
 
-pub reads_request : (f : List ℕ) → IsJoinRequest f → read_of f ≡ JoinRequest
+pub reads_request : (f : List ℕ) → IsJoinRequest f → read_of f ≡ (Ok JoinRequest)
 reads_request f h =
     steps.by_type f (omega (arith, h.long)) (omega (arith, h.long)) h.version
     ∙ steps.type_request f h.type
     ∙ steps.request_right f h.long
 
-pub reads_accept : (f : List ℕ) (n : ℕ) → IsJoinAccept f n → read_of f ≡ JoinAccept n
+pub reads_accept : (f : List ℕ) (n : ℕ) → IsJoinAccept f n → read_of f ≡ Ok (JoinAccept n)
 reads_accept f n h =
     ⊎_elim
     (λ e.
     steps.by_type f (omega (arith, h.long)) (omega (arith, h.long)) h.version
     ∙ steps.type_accept f h.type
     ∙ steps.accept_short f (h.long ∙ e)
-    ∙ ap JoinAccept (sym e))
+    ∙ ap (λ x. Ok (JoinAccept x)) (sym e))
     (λ e.
     steps.by_type f (omega (arith, h.long)) (omega (arith, h.long)) h.version
     ∙ steps.type_accept f h.type
     ∙ steps.accept_long f (h.long ∙ e)
-    ∙ ap JoinAccept (sym e))
+    ∙ ap (λ x. Ok (JoinAccept x)) (sym e))
     h.either
 
-pub reads_data : (f : List ℕ) → IsData f → read_of f ≡ Data (data_of f)
+pub reads_data : (f : List ℕ) → IsData f → read_of f ≡ Ok (Data (data_of f))
 reads_data f h =
     steps.by_type f h.least h.most h.version ∙ steps.type_data f h.from h.below ∙ steps.data_right f h.fits
 
@@ -64,10 +65,10 @@ reads_data f h =
 
 -- what an answer says of the frame
 abbrev pub Says : List ℕ → Reading → Type 0
-Says f JoinRequest = IsJoinRequest f
-Says f (JoinAccept n) = IsJoinAccept f n
-Says f (Data d) = IsData f × (d ≡ data_of f)
-Says f (Refused r) = Gives f r
+Says f (Ok JoinRequest) = IsJoinRequest f
+Says f (Ok (JoinAccept n)) = IsJoinAccept f n
+Says f (Ok (Data d)) = IsData f × (d ≡ data_of f)
+Says f (Err r) = Gives f r
 
 -- an answer that is given where what it says holds
 given : (f : List ℕ) (r : Reading) → read_of f ≡ r → Says f r → Says f (read_of f)
@@ -86,7 +87,7 @@ module _ (f : List ℕ) (l : 12 ≤ length f) (m : length f ≤ 255) (v : major 
       by_equal (length f) 23
       (λ e.
       let g : IsJoinRequest f = record { version = v; type = t; long = e } in
-      given f JoinRequest (reads_request f g) g)
+      given f (Ok JoinRequest) (reads_request f g) g)
       (λ n. wrong (request t n))
 
   answer_accept : mtype f ≡ 1 → Says f (read_of f)
@@ -94,12 +95,12 @@ module _ (f : List ℕ) (l : 12 ≤ length f) (m : length f ≤ 255) (v : major 
       by_equal (length f) 17
       (λ e.
       let g : IsJoinAccept f 17 = record { version = v; type = t; long = e; either = inl refl } in
-      given f (JoinAccept 17) (reads_accept f 17 g) g)
+      given f (Ok (JoinAccept 17)) (reads_accept f 17 g) g)
       (λ n.
       by_equal (length f) 33
       (λ e.
       let g : IsJoinAccept f 33 = record { version = v; type = t; long = e; either = inr refl } in
-      given f (JoinAccept 33) (reads_accept f 33 g) g)
+      given f (Ok (JoinAccept 33)) (reads_accept f 33 g) g)
       (λ k. wrong (accept t n k)))
 
   answer_data : 2 ≤ mtype f → mtype f < 6 → Says f (read_of f)
@@ -107,7 +108,7 @@ module _ (f : List ℕ) (l : 12 ≤ length f) (m : length f ≤ 255) (v : major 
       by_order (5 + fhdr_length_of f) (length f)
       (λ h.
       let g : IsData f = record { least = l; most = m; version = v; from = t; below = u; fits = h } in
-      given f (Data (data_of f)) (reads_data f g) (g, refl))
+      given f (Ok (Data (data_of f))) (reads_data f g) (g, refl))
       (λ h. faulty f header (record { not_12 = m; not_1 = l; not_2 = v; not_3 = u; data_frame = t; short = h }))
 
   answer_type : Says f (read_of f)
@@ -130,19 +131,19 @@ answers f =
 pub said : (f : List ℕ) {r : Reading} → read_of f ≡ r → Says f r
 said f e = subst (λ (x : Reading). Says f x) e (answers f)
 
-pub request_read : (f : List ℕ) → read_of f ≡ JoinRequest → IsJoinRequest f
+pub request_read : (f : List ℕ) → read_of f ≡ (Ok JoinRequest) → IsJoinRequest f
 request_read f e = said f e
 
-pub accept_read : (f : List ℕ) {n : ℕ} → read_of f ≡ JoinAccept n → IsJoinAccept f n
+pub accept_read : (f : List ℕ) {n : ℕ} → read_of f ≡ Ok (JoinAccept n) → IsJoinAccept f n
 accept_read f e = said f e
 
-pub data_read : (f : List ℕ) {d : DataFrame} → read_of f ≡ Data d → IsData f
+pub data_read : (f : List ℕ) {d : DataFrame} → read_of f ≡ Ok (Data d) → IsData f
 data_read f e = (said f e).0
 
-pub data_fields : (f : List ℕ) {d : DataFrame} → read_of f ≡ Data d → d ≡ data_of f
+pub data_fields : (f : List ℕ) {d : DataFrame} → read_of f ≡ Ok (Data d) → d ≡ data_of f
 data_fields f e = (said f e).1
 
-pub refusal_read : (f : List ℕ) {r : Refusal} → read_of f ≡ Refused r → Gives f r
+pub refusal_read : (f : List ℕ) {r : Refusal} → read_of f ≡ Err r → Gives f r
 refusal_read f e = said f e
 
 -- ---- the numbers of reading's refusals

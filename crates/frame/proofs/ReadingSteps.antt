@@ -1,6 +1,7 @@
 -- What reading gives where its tests are known, one law for each way through the definitions. Each holds since the
 -- definition picks by just these tests.
 -- Assumes nothing.
+use Rattle.std.specs.Prelude.{None, Ok, Some}
 use mathlib.Core.Path.{◌≡◌}
 use mathlib.Core.List.{List}
 use Prim.Native.Nat.{ℕ, ◌+◌, ◌≤◌, ◌<◌}
@@ -10,18 +11,17 @@ use borrow.Author.Tests.{lt-ltb, le-ltb, le-leb, lt-leb, eq-eqb, ne_eqb}
 use Rattle.frame.specs.Faults as fault
 use Rattle.frame.specs.Layout.{mtype, major, fhdr_length_of, fport, payload_start_of, payload_end_of}
 use Rattle.frame.specs.Reading.{refuse, port_of, held_by_of, payload_of, data_of, read_join_request_of, read_join_accept_of, read_data_of, read_type_of, read_of}
-use Rattle.frame.specs.declared.parser.FPort.TheVariants.{Absent, Port}
 use Rattle.frame.specs.declared.parser.FrmPayload.TheVariants.{Nothing, Data as PlainData, MacCommands}
-use Rattle.frame.specs.declared.parser.Reading.TheVariants.{JoinRequest, JoinAccept, Data}
+use Rattle.frame.specs.declared.parser.Frame.TheVariants.{JoinRequest, JoinAccept, Data}
 
 module _ (f : List ℕ) where
   -- ---- the port
 
-  pub port_there : fhdr_length_of f + 6 ≤ length f → port_of f ≡ Port (fport f)
+  pub port_there : fhdr_length_of f + 6 ≤ length f → port_of f ≡ Some (fport f)
   unfolding port_of
   port_there h = simp (le-leb _ _ h)
 
-  pub port_absent : length f < fhdr_length_of f + 6 → port_of f ≡ Absent
+  pub port_absent : length f < fhdr_length_of f + 6 → port_of f ≡ None
   unfolding port_of
   port_absent h = simp (lt-leb _ _ h)
 
@@ -31,7 +31,7 @@ module _ (f : List ℕ) where
   unfolding payload_of
   payload-none h = rw (port_absent h)
 
-  pub payload-held : fhdr_length_of f + 6 ≤ length f → payload_of f ≡ held_by_of (Port (fport f)) (payload_start_of f) (payload_end_of f)
+  pub payload-held : fhdr_length_of f + 6 ≤ length f → payload_of f ≡ held_by_of (Some (fport f)) (payload_start_of f) (payload_end_of f)
   unfolding payload_of
   payload-held h = rw (port_there h)
 
@@ -45,7 +45,7 @@ module _ (f : List ℕ) where
 
   -- ---- by the type
 
-  pub request_right : length f ≡ 23 → read_join_request_of f ≡ JoinRequest
+  pub request_right : length f ≡ 23 → read_join_request_of f ≡ (Ok JoinRequest)
   unfolding read_join_request_of
   request_right e = simp (eq-eqb _ _ e)
 
@@ -53,11 +53,11 @@ module _ (f : List ℕ) where
   unfolding read_join_request_of
   request_wrong n = simp (ne_eqb _ _ n)
 
-  pub accept_short : length f ≡ 17 → read_join_accept_of f ≡ JoinAccept 17
+  pub accept_short : length f ≡ 17 → read_join_accept_of f ≡ Ok (JoinAccept 17)
   unfolding read_join_accept_of
   accept_short e = simp (eq-eqb _ _ e)
 
-  pub accept_long : length f ≡ 33 → read_join_accept_of f ≡ JoinAccept 33
+  pub accept_long : length f ≡ 33 → read_join_accept_of f ≡ Ok (JoinAccept 33)
   unfolding read_join_accept_of
   accept_long e =
       let n : length f ≡ 17 → ⊥ = λ q. omega arith in
@@ -67,7 +67,7 @@ module _ (f : List ℕ) where
   unfolding read_join_accept_of
   accept_wrong n m = simp (ne_eqb _ _ n, ne_eqb _ _ m)
 
-  pub data_right : 5 + fhdr_length_of f ≤ length f → read_data_of f ≡ Data (data_of f)
+  pub data_right : 5 + fhdr_length_of f ≤ length f → read_data_of f ≡ Ok (Data (data_of f))
   unfolding read_data_of
   data_right h = simp (le-leb _ _ h)
 

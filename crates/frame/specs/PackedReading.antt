@@ -1,7 +1,7 @@
 -- A reading as one number of 64 bits, for callers across C: fields of so many bits each, from the lowest bit up. The lowest
 -- eight are the number of the refusal, 0 where the frame is accepted; `bits_of` says what lies above.
 -- Assumes nothing.
-use Rattle.std.specs.Prelude.{List, [], ◌∷◌, ℕ, zero, suc, ◌+◌, ◌-◌, ◌*◌, ◌%◌, ◌^◌, ◌<◌}
+use Rattle.std.specs.Prelude.{List, [], ◌∷◌, ℕ, zero, suc, ◌+◌, ◌-◌, ◌*◌, ◌%◌, ◌^◌, ◌<◌, Err, Ok}
 use Rattle.base.specs.Bytes.{pick}
 use Rattle.frame.specs.Layout.{fhdr_length_of, header_end_of}
 use Rattle.frame.specs.Reading.{port_of, payload_of}
@@ -9,8 +9,8 @@ use Rattle.frame.specs.ReadingNumbers.{port_given_of, port_number_of, payload_ki
 use Rattle.frame.specs.declared.parser.FrmPayload.{FrmPayload}
 use Rattle.frame.specs.declared.parser.FrmPayload.TheVariants.{Nothing, Data as PlainData, MacCommands}
 use Rattle.frame.specs.declared.parser.DataFrame.{DataFrame}
-use Rattle.frame.specs.declared.parser.Reading.{Reading}
-use Rattle.frame.specs.declared.parser.Reading.TheVariants.{JoinRequest, JoinAccept, Data, Refused}
+use Rattle.frame.specs.Reading.{Reading}
+use Rattle.frame.specs.declared.parser.Frame.TheVariants.{JoinRequest, JoinAccept, Data}
 
 -- ---- numbers made of fields
 
@@ -78,10 +78,10 @@ bits_of_data d =
 
 -- of a refused one: its number, and above it the place
 abbrev pub bits_of : Reading → List Bits
-bits_of JoinRequest = bits_of_join 0 23
-bits_of (JoinAccept n) = bits_of_join 1 n
-bits_of (Data d) = bits_of_data d
-bits_of (Refused r) = numbered_bits_of r.number r.place
+bits_of (Ok JoinRequest) = bits_of_join 0 23
+bits_of (Ok (JoinAccept n)) = bits_of_join 1 n
+bits_of (Ok (Data d)) = bits_of_data d
+bits_of (Err r) = numbered_bits_of r.number r.place
 
 unfoldable pub packed_of : Reading → ℕ
 packed_of r = packed (bits_of r)

@@ -2,7 +2,6 @@
 #![tactic(auto)]
 
 pub mod join_fields;
-pub mod keys;
 pub mod numbers;
 pub mod packed;
 pub mod packet_length;

@@ -1,11 +1,9 @@
-// What a reading answers, in numbers: the refusal of a call that needs a frame of another type, and all of a reading as one
-// record.
+// What reading answers, in numbers: all of it as one record.
 ghost use Rattle.std.specs.Prelude.{◌≡◌};
-ghost use Rattle.frame.specs.Refusals.{refused};
-ghost use Rattle.frame.specs.ReadingNumbers.{port_given_of, port_number_of, payload_kind_of, payload_from_of, payload_to_of, other_refusal_of, plain_values_of, data_values_of, values_of};
+ghost use Rattle.frame.specs.ReadingNumbers.{port_given_of, port_number_of, payload_kind_of, payload_from_of, payload_to_of, plain_values_of, data_values_of, values_of};
 
-use crate::parser::{DataFrame, FPort, FrmPayload, Reading};
-use crate::refusals::{INVALID_DATA, Refusal};
+use crate::parser::{DataFrame, Frame, FrmPayload};
+use crate::refusals::Refusal;
 
 // A reading as plain numbers, for callers that know no enum. kind is 0 of a refusal, 1 of a join-request, 2 of a
 // join-accept, 3 of data; payload_kind is 0 of none, 1 of data, 2 of commands. What a kind does not have is 0.
@@ -25,47 +23,6 @@ pub struct Values {
     pub payload_from: usize,
     pub payload_to: usize,
     pub mic: usize,
-}
-
-fn other_type() -> Refusal
-    ensures { result ≡ refused 4 }
-{
-    Refusal {
-        number: INVALID_DATA,
-        place: 0,
-    }
-}
-
-// What a call is refused by that needs a frame of another type: a refused reading keeps its own number and place.
-pub fn other_refusal(reading: Reading) -> Refusal
-    ensures { result ≡ other_refusal_of reading }
-{
-    match reading {
-        Reading::JoinRequest => other_type(),
-        Reading::JoinAccept(_) => other_type(),
-        Reading::Data(_) => other_type(),
-        Reading::Refused(own) => own,
-    }
-}
-
-// Whether a port is reported.
-fn port_given(port: FPort) -> bool
-    ensures { result ≡ port_given_of port }
-{
-    match port {
-        FPort::Absent => false,
-        FPort::Port(_) => true,
-    }
-}
-
-// The port that is reported, and 0 where there is none.
-fn port_number(port: FPort) -> u8
-    ensures { result ≡ port_number_of port }
-{
-    match port {
-        FPort::Absent => 0,
-        FPort::Port(n) => n,
-    }
 }
 
 // The kind of a payload: 0 none, 1 data, 2 commands.
@@ -137,8 +94,8 @@ fn data_values(d: DataFrame) -> Values
         fctrl: d.fctrl,
         fcnt: d.fcnt,
         fopts_end: d.fopts_end,
-        port_given: port_given(port),
-        port: port_number(port),
+        port_given: port.is_some(),
+        port: port.unwrap_or(0),
         payload_kind: payload_kind(payload),
         payload_from: payload_from(payload),
         payload_to: payload_to(payload),
@@ -147,13 +104,13 @@ fn data_values(d: DataFrame) -> Values
 }
 
 // All the numbers of a reading.
-pub fn values_of(reading: Reading) -> Values
+pub fn values_of(reading: Result<Frame, Refusal>) -> Values
     ensures { result ≡ values_of reading }
 {
     match reading {
-        Reading::JoinRequest => plain_values(1, 0, 0, 0),
-        Reading::JoinAccept(n) => plain_values(2, 0, 0, n),
-        Reading::Data(d) => data_values(d),
-        Reading::Refused(refusal) => plain_values(0, refusal.number, refusal.place, 0),
+        Ok(Frame::JoinRequest) => plain_values(1, 0, 0, 0),
+        Ok(Frame::JoinAccept(n)) => plain_values(2, 0, 0, n),
+        Ok(Frame::Data(d)) => data_values(d),
+        Err(refusal) => plain_values(0, refusal.number, refusal.place, 0),
     }
 }

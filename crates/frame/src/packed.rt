@@ -9,7 +9,7 @@ ghost use Rattle.frame.specs.PackedReading.{packed, bits_of_join, packed_of, num
 use crate::packet_length::{
     FCNT_AT, FCTRL_AT, JOIN_REQUEST_LEN, MIC_LEN, PHY_PAYLOAD_MAX_LEN, PHY_PAYLOAD_MIN_LEN,
 };
-use crate::parser::{Reading, fhdr_length, has_port, read, read_fcnt};
+use crate::parser::{Frame, fhdr_length, has_port, read, read_fcnt};
 
 // One in each field, by the bit that it begins at.
 const VALUE: u64 = 256;
@@ -61,12 +61,11 @@ fn other_bits(frame: &[u8]) -> u64
     requires { IsData frame.now → ⊥ }
     ensures { result ≡ packed_of (read_of frame.now) }
 {
-    let reading = read(frame);
-    match reading {
-        Reading::JoinRequest => join_bits(0, JOIN_REQUEST_LEN),
-        Reading::JoinAccept(n) => join_bits(1, n),
-        Reading::Data(_) => 0,
-        Reading::Refused(refusal) => numbered_bits(refusal.number, refusal.place),
+    match read(frame) {
+        Ok(Frame::JoinRequest) => join_bits(0, JOIN_REQUEST_LEN),
+        Ok(Frame::JoinAccept(n)) => join_bits(1, n),
+        Ok(Frame::Data(_)) => 0,
+        Err(refusal) => numbered_bits(refusal.number, refusal.place),
     }
 }
 

@@ -1,5 +1,8 @@
 // Every refusal that the codec gives, by its number and name (docs/RULES.md, Refusals), and the pair of number and place that
 // an answer carries.
+ghost use Rattle.std.specs.Prelude.{◌≡◌};
+ghost use Rattle.frame.specs.Refusals.{refusal, refused};
+
 pub const INVALID_PAYLOAD: u8 = 1;
 
 pub const UNSUPPORTED_MAJOR_VERSION: u8 = 2;
@@ -36,10 +39,24 @@ pub const COMMAND_CUT_SHORT: u8 = 17;
 
 pub const VALUE_OUT_OF_RANGE: u8 = 18;
 
-// A refusal: its number, and the place that the rules name, 0 where they name none. In a record that holds one beside its
-// values, number 0 says that nothing was refused.
+// A refusal: its number, and the place that the rules name, 0 where they name none.
 #[derive(Clone, Copy)]
 pub struct Refusal {
     pub number: u8,
     pub place: usize,
+}
+
+impl Refusal {
+    pub fn at(number: u8, place: usize) -> Refusal
+        ensures { result ≡ refusal number place }
+    {
+        Refusal { number, place }
+    }
+
+    // Where the rules name no place.
+    pub fn of(number: u8) -> Refusal
+        ensures { result ≡ refused number }
+    {
+        Refusal::at(number, 0)
+    }
 }

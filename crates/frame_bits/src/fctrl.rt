@@ -68,6 +68,7 @@ impl FCtrl {
         self.0
     }
 
+    // A name for each bit that is set, as for each that is read, since callers know the bits by name.
     pub fn with_adr(self) -> FCtrl
         ensures { result ≡ with_bit_of 128 self }
     {

@@ -1,6 +1,10 @@
 -- What a building promises, from what its steps did: a refusal changes nothing; a run of bytes stored from the start of the
 -- output, and sealed there, is the frame with the bytes behind it as they were.
 -- Assumes nothing.
+use Rattle.frame.specs.Refusals.{allowed}
+use Rattle.frame.specs.declared.refusals.Refusal.{Refusal}
+use Rattle.frame.proofs.Others.{refused_by, passed_by}
+use Rattle.std.specs.Prelude.{Err, Ok}
 use mathlib.Core.Path.{◌≡◌, refl, sym, ap, ap₂, ◌∙◌}
 use mathlib.Core.Bool.{Bool, true, false}
 use mathlib.Core.List.{List, ◌++◌, append_assoc}
@@ -17,26 +21,25 @@ use Rattle.frame_build.specs.DataFrames.{Builds, data_frame_of}
 use Rattle.frame_build.specs.DataBuilding.{body_of, data_header, data_length, clear_data}
 use Rattle.frame.specs.Refusals.{refused}
 use Rattle.frame_security.specs.Sealing.{sealed}
-use Rattle.frame_build.specs.declared.creator.Built.TheVariants.{Frame, Refused}
 use Rattle.frame_build.specs.declared.creator.data_frame.DataParts.{DataParts}
 use Rattle.frame_security.proofs.SealingLaws.{sealed_long}
 
-pub not_built : {r refusal : ℕ} {frame l : List ℕ} → r ≡ refusal → (r ≡ 0 → ⊥) → Builds refusal frame l (Refused (refused r)) l
-not_built {r} {refusal} {frame} {l} h n =
-    let e : eqb refusal 0 ≡ false = ap (λ (m : ℕ). eqb m 0) (sym h) ∙ ne_eqb r 0 n in
+pub not_built : {refusal : ℕ} {frame l : List ℕ} {r : Refusal} → Err r ≡ allowed refusal
+    → Builds refusal frame l (Err r) l
+not_built {refusal} {frame} {l} q =
+    let by = refused_by refusal q in
+    let e : eqb refusal 0 ≡ false = ne_eqb refusal 0 by.1 in
     record {
-      answer =
-          ap (λ (m : ℕ). Refused (refused m)) h
-          ∙ ap (λ (b : Bool). pick b (Frame (length frame)) (Refused (refused refusal))) (sym e);
+      answer = ap Err by.0 ∙ ap (λ (b : Bool). pick b (Ok (length frame)) (Err (refused refusal))) (sym e);
       output = ap (λ (b : Bool). pick b (frame ++ drop (length frame) l) l) (sym e);
     }
 
-pub built : {r refusal n : ℕ} {frame l e : List ℕ} → r ≡ refusal → r ≡ 0
-    → (n ≡ length frame) × (e ≡ frame ++ drop (length frame) l) → Builds refusal frame l (Frame n) e
-built {r} {refusal} {n} {frame} {l} {e} h z q =
-    let b : eqb refusal 0 ≡ true = ap (λ (m : ℕ). eqb m 0) (sym h) ∙ eq-eqb r 0 z in
+pub built : {refusal n : ℕ} {frame l e : List ℕ} {u : Unit {0}} → Ok u ≡ allowed refusal
+    → (n ≡ length frame) × (e ≡ frame ++ drop (length frame) l) → Builds refusal frame l (Ok n) e
+built {refusal} {n} {frame} {l} {e} p q =
+    let b : eqb refusal 0 ≡ true = eq-eqb refusal 0 (passed_by refusal p) in
     record {
-      answer = ap Frame q.0 ∙ ap (λ (t : Bool). pick t (Frame (length frame)) (Refused (refused refusal))) (sym b);
+      answer = ap Ok q.0 ∙ ap (λ (t : Bool). pick t (Ok (length frame)) (Err (refused refusal))) (sym b);
       output = q.1 ∙ ap (λ (t : Bool). pick t (frame ++ drop (length frame) l) l) (sym b);
     }
 

@@ -1,6 +1,7 @@
 -- The header of a built data frame: its length and what stands at each of its places. Its first eight bytes are a list
 -- that is written out, so each place computes.
 -- Assumes nothing.
+use Rattle.std.specs.Prelude.{None, Option, Some}
 use mathlib.Core.Path.{◌≡◌, sym, ap, ap₂, ◌∙◌}
 use mathlib.Core.Bool.{Bool}
 use mathlib.Core.List.{List, [], ◌∷◌, ◌++◌}
@@ -11,8 +12,6 @@ use lib.ListN.{length, length-append}
 use Rattle.base.specs.Bytes.{pick, at}
 use Rattle.base.proofs.Tab.{tab-at}
 use Rattle.frame_build.specs.DataBuilding.{mhdr_of, port_bytes, fopts_of, body_of, fixed_header_of, data_header, clear_data}
-use Rattle.frame.specs.declared.parser.FPort.{FPort}
-use Rattle.frame.specs.declared.parser.FPort.TheVariants.{Absent, Port}
 use Rattle.frame_build.specs.declared.creator.data_frame.DataParts.{DataParts}
 
 -- the eight bytes, written out
@@ -56,25 +55,25 @@ module _ (d : DataParts) (four : length d.dev_addr ≡ 4) where
 -- ---- the clear frame, with the port known
 
 module _ (d : DataParts) (commands body head : List ℕ) where
-  clear_at : FPort → List ℕ
+  clear_at : Option ℕ → List ℕ
   clear_at p = fixed_header_of d (length (fopts_of p commands)) ++ fopts_of p commands ++ port_bytes p ++ body_of p commands body
 
-  clear_known : (p : FPort) → d.port ≡ p → clear_data d commands body ≡ clear_at p
+  clear_known : (p : Option ℕ) → d.port ≡ p → clear_data d commands body ≡ clear_at p
   unfolding data_header clear_at
   clear_known p e = ap clear_at e
 
-  pub clear_absent : d.port ≡ Absent → head ≡ fixed_header_of d (length commands)
+  pub clear_absent : d.port ≡ None → head ≡ fixed_header_of d (length commands)
       → head ++ commands ++ [] ++ body ≡ clear_data d commands body
   unfolding clear_at
-  clear_absent e h = ap (λ (f : List ℕ). f ++ commands ++ [] ++ body) h ∙ sym (clear_known Absent e)
+  clear_absent e h = ap (λ (f : List ℕ). f ++ commands ++ [] ++ body) h ∙ sym (clear_known None e)
 
-  pub clear_commands : (p : ℕ) → p ≡ 0 → d.port ≡ Port p → head ≡ fixed_header_of d 0
+  pub clear_commands : (p : ℕ) → p ≡ 0 → d.port ≡ Some p → head ≡ fixed_header_of d 0
       → head ++ [] ++ p ∷ [] ++ commands ≡ clear_data d commands body
   unfolding clear_at
   clear_commands p z e h =
-      ap₂ (λ (f : List ℕ) (q : ℕ). f ++ [] ++ q ∷ [] ++ commands) h z ∙ sym (clear_known (Port 0) (e ∙ ap Port z))
+      ap₂ (λ (f : List ℕ) (q : ℕ). f ++ [] ++ q ∷ [] ++ commands) h z ∙ sym (clear_known (Some 0) (e ∙ ap Some z))
 
-  pub clear_port : (p : ℕ) → (p ≡ 0 → ⊥) → d.port ≡ Port p → head ≡ fixed_header_of d (length commands)
+  pub clear_port : (p : ℕ) → (p ≡ 0 → ⊥) → d.port ≡ Some p → head ≡ fixed_header_of d (length commands)
       → head ++ commands ++ p ∷ [] ++ body ≡ clear_data d commands body
   unfolding clear_at
   clear_port p n e h =
@@ -83,18 +82,4 @@ module _ (d : DataParts) (commands body head : List ℕ) where
       (λ (z : Bool).
       fixed_header_of d (length (pick z [] commands)) ++ pick z [] commands ++ p ∷ [] ++ pick z commands body)
       (sym (ne_eqb p 0 n))
-      ∙ sym (clear_known (Port p) e)
-
--- ---- the payload's length, with the port known
-
-module _ (port : FPort) (commands body : List ℕ) where
-  pub body_absent : port ≡ Absent → length body ≡ length (body_of port commands body)
-  body_absent e = ap (λ (q : FPort). length (body_of q commands body)) (sym e)
-
-  pub body_commands : (p : ℕ) → p ≡ 0 → port ≡ Port p → length commands ≡ length (body_of port commands body)
-  body_commands p z e = ap (λ (q : FPort). length (body_of q commands body)) (sym (e ∙ ap Port z))
-
-  pub body_port : (p : ℕ) → (p ≡ 0 → ⊥) → port ≡ Port p → length body ≡ length (body_of port commands body)
-  body_port p n e =
-      ap (λ (z : Bool). length (pick z commands body)) (sym (ne_eqb p 0 n))
-      ∙ ap (λ (q : FPort). length (body_of q commands body)) (sym e)
+      ∙ sym (clear_known (Some p) e)

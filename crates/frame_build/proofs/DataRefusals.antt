@@ -1,6 +1,7 @@
 -- The refusals of building a data frame: what is accepted passes all tests; and with the port known, they come down to two
 -- lengths.
 -- Assumes nothing.
+use Rattle.std.specs.Prelude.{None, Option, Some}
 use mathlib.Core.Path.{◌≡◌, sym, ap, ap₂, ◌∙◌, subst}
 use mathlib.Core.Bool.{Bool, true, false, not}
 use mathlib.Core.List.{List, [], ◌∷◌}
@@ -13,8 +14,6 @@ use Rattle.base.specs.Bytes.{pick}
 use Rattle.base.proofs.Cases.{by_order, by_equal}
 use Rattle.frame_build.specs.DataBuilding.{both, first_of, is_absent, is_zero, port_bytes, fopts_of, body_of, data_header, clear_data, data_length, data_tests, data_refusal_of}
 use Rattle.frame_build.specs.DataRefusalCases.{absent_refusal, port_refusal}
-use Rattle.frame.specs.declared.parser.FPort.{FPort}
-use Rattle.frame.specs.declared.parser.FPort.TheVariants.{Absent, Port}
 use Rattle.frame_build.specs.declared.creator.data_frame.DataParts.{DataParts}
 use Rattle.frame_build.proofs.FirstTest.{none_fails}
 use Rattle.frame_build.proofs.DataHeader.{length-header}
@@ -31,33 +30,33 @@ module _ (d : DataParts) (four : length d.dev_addr ≡ 4) (commands body : List 
       length-append (data_header d commands) (body_of d.port commands body)
       ∙ ap (λ (n : ℕ). n + length (body_of d.port commands body)) (length-header d four commands)
 
-  pub length_absent : d.port ≡ Absent → data_length d commands body ≡ 12 + length commands + length body
+  pub length_absent : d.port ≡ None → data_length d commands body ≡ 12 + length commands + length body
   length_absent e =
       let l : length (clear_data d commands body) ≡ 8 + length commands + 0 + length body =
       length_clear
-      ∙ ap (λ (p : FPort). 8 + length (fopts_of p commands) + length (port_bytes p) + length (body_of p commands body)) e in
+      ∙ ap (λ (p : Option ℕ). 8 + length (fopts_of p commands) + length (port_bytes p) + length (body_of p commands body)) e in
       omega arith
 
-  pub length-commands : d.port ≡ Port 0 → data_length d commands body ≡ 13 + length commands
+  pub length-commands : d.port ≡ Some 0 → data_length d commands body ≡ 13 + length commands
   length-commands e =
       let l : length (clear_data d commands body) ≡ 8 + 0 + 1 + length commands =
       length_clear
-      ∙ ap (λ (p : FPort). 8 + length (fopts_of p commands) + length (port_bytes p) + length (body_of p commands body)) e in
+      ∙ ap (λ (p : Option ℕ). 8 + length (fopts_of p commands) + length (port_bytes p) + length (body_of p commands body)) e in
       omega arith
 
-  pub length_port : (p : ℕ) → (p ≡ 0 → ⊥) → d.port ≡ Port p → data_length d commands body ≡ 13 + length commands + length body
+  pub length_port : (p : ℕ) → (p ≡ 0 → ⊥) → d.port ≡ Some p → data_length d commands body ≡ 13 + length commands + length body
   length_port p n e =
       let k : eqb p 0 ≡ false = ne_eqb p 0 n in
       let l : length (clear_data d commands body) ≡ 8 + length commands + 1 + length body =
       length_clear
-      ∙ ap (λ (q : FPort). 8 + length (fopts_of q commands) + length (port_bytes q) + length (body_of q commands body)) e
+      ∙ ap (λ (q : Option ℕ). 8 + length (fopts_of q commands) + length (port_bytes q) + length (body_of q commands body)) e
       ∙ ap (λ (z : Bool). 8 + length (pick z [] commands) + 1 + length (pick z commands body)) k in
       omega arith
 
 -- ---- with the port known
 
 -- the tests past 7 and 13, by the port, the two lengths and the length of the frame
-abbrev past : FPort → ℕ → ℕ → ℕ → ℕ
+abbrev past : Option ℕ → ℕ → ℕ → ℕ → ℕ
 past port commands body n =
     first_of
     ((both (not (is_zero port)) (ltb 15 commands), 9)
@@ -66,7 +65,7 @@ past port commands body n =
     ∷ (ltb 255 n, 12)
     ∷ [])
 
-past_absent : (a b : ℕ) → past Absent a b (12 + a + b) ≡ absent_refusal a b
+past_absent : (a b : ℕ) → past None a b (12 + a + b) ≡ absent_refusal a b
 past_absent a b =
     by_order a 15
     (λ h.
@@ -77,7 +76,7 @@ past_absent a b =
     (λ k. simp (le-ltb _ _ h, lt-ltb _ _ k)))
     (λ h. simp (lt-ltb _ _ h))
 
-past_commands : (a b : ℕ) → past (Port 0) a b (13 + a) ≡ port_refusal 0 a b
+past_commands : (a b : ℕ) → past (Some 0) a b (13 + a) ≡ port_refusal 0 a b
 past_commands a b =
     by_order a 242
     (λ h.
@@ -87,7 +86,7 @@ past_commands a b =
     let s : 255 < 13 + a = omega arith in
     simp (lt-ltb _ _ h, lt-ltb _ _ s))
 
-past_port : (p a b : ℕ) → (p ≡ 0 → ⊥) → past (Port p) a b (13 + a + b) ≡ port_refusal p a b
+past_port : (p a b : ℕ) → (p ≡ 0 → ⊥) → past (Some p) a b (13 + a + b) ≡ port_refusal p a b
 past_port p a b n =
     by_order b 255 (λ h. simp (ne_eqb _ _ n, le-ltb _ _ h))
     (λ h.
@@ -109,26 +108,26 @@ module _ (d : DataParts) (four : length d.dev_addr ≡ 4) (commands body : List 
     unfolding data_refusal_of
     others = simp (le-ltb _ _ h, eq-eqb _ _ clean)
 
-    known : (p : FPort) (n : ℕ) → d.port ≡ p → data_length d commands body ≡ n
+    known : (p : Option ℕ) (n : ℕ) → d.port ≡ p → data_length d commands body ≡ n
         → data_refusal_of d commands body room ≡ past p (length commands) (length body) n
-    known p n e l = others ∙ ap₂ (λ (q : FPort) (m : ℕ). past q (length commands) (length body) m) e l
+    known p n e l = others ∙ ap₂ (λ (q : Option ℕ) (m : ℕ). past q (length commands) (length body) m) e l
 
-    pub absent_case : d.port ≡ Absent → data_refusal_of d commands body room ≡ absent_refusal (length commands) (length body)
+    pub absent_case : d.port ≡ None → data_refusal_of d commands body room ≡ absent_refusal (length commands) (length body)
     absent_case e =
-        known Absent (12 + length commands + length body) e (length_absent d four commands body e)
+        known None (12 + length commands + length body) e (length_absent d four commands body e)
         ∙ past_absent (length commands) (length body)
 
-    pub port_case : (p : ℕ) → d.port ≡ Port p
+    pub port_case : (p : ℕ) → d.port ≡ Some p
         → data_refusal_of d commands body room ≡ port_refusal p (length commands) (length body)
     port_case p e =
         by_equal p 0
         (λ z.
-        let f : d.port ≡ Port 0 = e ∙ ap Port z in
-        known (Port 0) (13 + length commands) f (length-commands d four commands body f)
+        let f : d.port ≡ Some 0 = e ∙ ap Some z in
+        known (Some 0) (13 + length commands) f (length-commands d four commands body f)
         ∙ past_commands (length commands) (length body)
         ∙ ap (λ (q : ℕ). port_refusal q (length commands) (length body)) (sym z))
         (λ n.
-        known (Port p) (13 + length commands + length body) e (length_port d four commands body p n e)
+        known (Some p) (13 + length commands + length body) e (length_port d four commands body p n e)
         ∙ past_port p (length commands) (length body) n)
 
 -- ---- what is accepted
@@ -166,19 +165,19 @@ accepted d commands body room e =
 -- the three ways to fill a frame
 
 module _ (d : DataParts) (four : length d.dev_addr ≡ 4) (commands body : List ℕ) (room : ℕ) (ok : Buildable d commands body room) where
-  pub fill_absent : d.port ≡ Absent → (length commands ≤ 15) × (8 + length commands + 0 + length body ≤ room)
+  pub fill_absent : d.port ≡ None → (length commands ≤ 15) × (8 + length commands + 0 + length body ≤ room)
   fill_absent e =
-      let s : length commands ≤ 15 = subst (λ (p : FPort). length (fopts_of p commands) ≤ 15) e ok.short in
+      let s : length commands ≤ 15 = subst (λ (p : Option ℕ). length (fopts_of p commands) ≤ 15) e ok.short in
       (s, omega (arith, ok.roomy, ok.fits, length_absent d four commands body e))
 
-  pub fill_commands : d.port ≡ Port 0 → 8 + 0 + 1 + length commands ≤ room
+  pub fill_commands : d.port ≡ Some 0 → 8 + 0 + 1 + length commands ≤ room
   fill_commands e = omega (arith, ok.roomy, ok.fits, length-commands d four commands body e)
 
-  pub fill_port : (p : ℕ) → (p ≡ 0 → ⊥) → d.port ≡ Port p
+  pub fill_port : (p : ℕ) → (p ≡ 0 → ⊥) → d.port ≡ Some p
       → (length commands ≤ 15) × (8 + length commands + 1 + length body ≤ room)
   fill_port p n e =
       let k : eqb p 0 ≡ false = ne_eqb p 0 n in
-      let s : length (fopts_of (Port p) commands) ≤ 15 = subst (λ (q : FPort). length (fopts_of q commands) ≤ 15) e ok.short in
+      let s : length (fopts_of (Some p) commands) ≤ 15 = subst (λ (q : Option ℕ). length (fopts_of q commands) ≤ 15) e ok.short in
       let t : length commands ≤ 15 = subst (λ (z : Bool). length (pick z [] commands) ≤ 15) k s in
       (t, omega (arith, ok.roomy, ok.fits, length_port d four commands body p n e))
 

@@ -2,21 +2,20 @@
 -- known lengths, so each is the list of its bytes.
 -- Assumes nothing.
 use mathlib.Core.Path.{◌≡◌, refl, sym, ap, ap₂, ◌∙◌, subst}
-use mathlib.Core.Bool.{Bool, true, false}
+use mathlib.Core.Bool.{Bool, true, false, ◌||◌}
+use Rattle.std.specs.List.{list_any}
 use mathlib.Core.List.{List, [], ◌∷◌, ◌++◌, append-nil}
-use Prim.Native.Nat.{ℕ, suc, ◌+◌, ◌/◌, ◌%◌, ◌≤◌, ◌<◌}
-use native.Mathlib.Numerals.{add-one}
+use Prim.Native.Nat.{ℕ, zero, suc, ◌+◌, ◌-◌, ◌*◌, ◌≤◌, ◌<◌}
 use native.Mathlib.Omega.{arith}
 use lib.Dec.{ltb}
-use lib.ListN.{length, drop, length-append, drop_of_length-le}
-use lib.Seq.{drop-cons}
+use lib.ListN.{length, take, drop, length-append}
 use borrow.Author.Tests.{lt-ltb, le-ltb, ltb-false}
-use Rattle.base.specs.Bytes.{pick, at, tab, AreBytes}
+use Rattle.base.specs.Bytes.{pick, at, tab, zeros, AreBytes}
 use Rattle.base.proofs.Each.{each}
 use Rattle.base.proofs.Parts.{bytes_nil, bytes_cons, bytes_append}
 use Rattle.base.proofs.Tab.{tab-at}
 use Rattle.frame_build.specs.DataBuilding.{both, either}
-use Rattle.frame_build.specs.JoinBuilding.{accept_head_of, cf_list_bytes_of, frequency_bytes, join_accept_body, join_request_body, list_byte_of, too_high_of, join_accept_length, join_accept_tests, join_accept_refusal_of, join_request_refusal}
+use Rattle.frame_build.specs.JoinBuilding.{accept_head_of, cf_list_bytes_of, frequency_bytes, join_accept_body, join_request_body, too_high_of, join_accept_length, join_accept_tests, join_accept_refusal_of, join_request_refusal}
 use Rattle.frame_build.specs.declared.creator.join.JoinAcceptParts.{JoinAcceptParts}
 use Rattle.frame_build.specs.declared.creator.join.JoinRequestParts.{JoinRequestParts}
 use Rattle.frame_build.proofs.FirstTest.{none_fails}
@@ -72,29 +71,40 @@ module _ (j : JoinAcceptParts) (hn : length j.app_nonce ≡ 3) (hi : length j.ne
 
 -- ---- the channels
 
-pub list_written : (channels : List ℕ) → cf_list_bytes_of channels ≡ tab 16 (list_byte_of channels)
+-- the list after its first i frequencies: these, and zeros behind them
+abbrev pub listed_to : List ℕ → ℕ → List ℕ
+listed_to channels i = take (3 * i) (cf_list_bytes_of channels) ++ zeros (16 - 3 * i)
+
+-- the next three bytes t are stored behind them
+pub list_turn : (channels : List ℕ) (i : ℕ) {l t : List ℕ} → i < 5 → l ≡ listed_to channels i → t ≡ frequency_bytes (at channels i)
+    → take (3 * i) l ++ (t ++ drop (3 * i + 3 - 3 * i) (drop (3 * i) l)) ≡ listed_to channels (i + 1)
 unfolding cf_list_bytes_of
-list_written channels = refl
+list_turn channels i {l} {t} h hl ht = ap₂ (λ (m f : List ℕ). stored i m f) hl ht ∙ turn i h
+  where
+    stored : ℕ → List ℕ → List ℕ → List ℕ
+    stored i l t = take (3 * i) l ++ (t ++ drop (3 * i + 3 - 3 * i) (drop (3 * i) l))
 
-pub byte_within : (channels : List ℕ) (i : ℕ) → i < 15 → at (frequency_bytes (at channels (i / 3))) (i % 3) ≡ list_byte_of channels i
-byte_within channels i h = ap (λ (b : Bool). pick b (at (frequency_bytes (at channels (i / 3))) (i % 3)) 0) (sym (lt-ltb i 15 h))
+    turn : (i : ℕ) → i < 5 → stored i (listed_to channels i) (frequency_bytes (at channels i)) ≡ listed_to channels (i + 1)
+    turn zero h = refl
+    turn (suc zero) h = refl
+    turn (suc (suc zero)) h = refl
+    turn (suc (suc (suc zero))) h = refl
+    turn (suc (suc (suc (suc zero)))) h = refl
+    turn (suc (suc (suc (suc (suc i))))) h = absurd (omega arith)
 
-pub byte_past : (channels : List ℕ) (i : ℕ) → 15 ≤ i → 0 ≡ list_byte_of channels i
-byte_past channels i h = ap (λ (b : Bool). pick b (at (frequency_bytes (at channels (i / 3))) (i % 3)) 0) (sym (le-ltb i 15 h))
+pub list_done : (channels : List ℕ) → listed_to channels 5 ≡ cf_list_bytes_of channels
+unfolding cf_list_bytes_of
+list_done channels = refl
 
-module _ (cs : List ℕ) (i : ℕ) where
-  pub high_found : i < length cs → 16777215 < at cs i → too_high_of (drop i cs) ≡ true
-  high_found h k = ap too_high_of (drop-cons cs i 0 h) ∙ ap (λ (b : Bool). pick b true (too_high_of (drop (suc i) cs))) (lt-ltb _ _ k)
-
-  pub high_next : i < length cs → at cs i ≤ 16777215 → too_high_of (drop (i + 1) cs) ≡ too_high_of (drop i cs)
-  high_next h k =
-      ap (λ (n : ℕ). too_high_of (drop n cs)) (add-one i)
-      ∙ sym
-      (ap too_high_of (drop-cons cs i 0 h)
-      ∙ ap (λ (b : Bool). pick b true (too_high_of (drop (suc i) cs))) (le-ltb _ _ k))
-
-  pub high_end : length cs ≤ i → too_high_of (drop i cs) ≡ false
-  high_end h = ap too_high_of (drop_of_length-le cs h)
+-- one of the channels is too high: the test of each of them
+pub any_high : (cs : List ℕ) → list_any (λ c. ltb 16777215 c) cs ≡ too_high_of cs
+any_high [] = refl
+any_high (c ∷ cs) = by_test (ltb 16777215 c) (any_high cs)
+  where
+    by_test : (b : Bool) → list_any (λ c. ltb 16777215 c) cs ≡ too_high_of cs
+        → (b || list_any (λ c. ltb 16777215 c) cs) ≡ pick b true (too_high_of cs)
+    by_test true e = refl
+    by_test false e = e
 
 -- ---- the parts of a join-accept
 
@@ -135,6 +145,14 @@ body_and_mic j hn hi ha channels =
     flag true = refl
     flag false = refl
 
+-- of a join-accept that nothing refuses: 13 bytes or more, and room for these and the MIC
+pub accept_sizes : (j : JoinAcceptParts) → length j.app_nonce ≡ 3 → length j.net_id ≡ 3 → length j.dev_addr ≡ 4 → (channels : List ℕ)
+    (room : ℕ) → join_accept_refusal_of j channels room ≡ 0
+    → (13 ≤ length (join_accept_body j channels)) × (length (join_accept_body j channels) + 4 ≤ room)
+accept_sizes j hn hi ha channels room e =
+    let whole = body_and_mic j hn hi ha channels in
+    (omega (arith, whole, accept_least j.with_c_f_list), omega (arith, whole, accept_room j channels room e))
+
 -- ---- the refusal of join-request building
 
 pub request_refused : (room : ℕ) → room < 23 → 7 ≡ join_request_refusal room
@@ -142,9 +160,6 @@ request_refused room h = ap (λ (b : Bool). pick b 7 0) (sym (lt-ltb room 23 h))
 
 pub request_accepted : (room : ℕ) → 23 ≤ room → 0 ≡ join_request_refusal room
 request_accepted room h = ap (λ (b : Bool). pick b 7 0) (sym (le-ltb room 23 h))
-
-pub seven : ◌≡◌ {A = ℕ} 7 0 → ⊥
-seven e = omega arith
 
 -- ---- clear bytes are bytes
 

@@ -1,10 +1,8 @@
 -- What building gives, from LoRaWAN 1.0 section 4 (docs/RULES.md, Building): tests in their order, and of data frames the
 -- clear bytes and the refusals.
 -- Assumes nothing.
-use Rattle.std.specs.Prelude.{Bool, true, false, not, List, [], ◌∷◌, ◌++◌, ℕ, ◌+◌, ◌/◌, ◌%◌, ltb, eqb, length}
+use Rattle.std.specs.Prelude.{Bool, true, false, not, List, [], ◌∷◌, ◌++◌, ℕ, ◌+◌, ◌/◌, ◌%◌, ltb, eqb, length, None, Option, Some}
 use Rattle.base.specs.Bytes.{pick}
-use Rattle.frame.specs.declared.parser.FPort.{FPort}
-use Rattle.frame.specs.declared.parser.FPort.TheVariants.{Absent, Port}
 use Rattle.frame_build.specs.declared.creator.data_frame.DataParts.{DataParts}
 
 -- ---- tests in their order
@@ -27,23 +25,23 @@ abbrev pub mhdr_of : Bool → Bool → ℕ
 mhdr_of confirmed uplink = pick confirmed 128 64 + pick uplink 0 32
 
 -- the port byte, if there is one
-abbrev pub port_bytes : FPort → List ℕ
-port_bytes Absent = []
-port_bytes (Port p) = p ∷ []
+abbrev pub port_bytes : Option ℕ → List ℕ
+port_bytes None = []
+port_bytes (Some p) = p ∷ []
 
-abbrev pub is_absent : FPort → Bool
-is_absent Absent = true
-is_absent (Port p) = false
+abbrev pub is_absent : Option ℕ → Bool
+is_absent None = true
+is_absent (Some p) = false
 
-abbrev pub is_zero : FPort → Bool
-is_zero Absent = false
-is_zero (Port p) = eqb p 0
+abbrev pub is_zero : Option ℕ → Bool
+is_zero None = false
+is_zero (Some p) = eqb p 0
 
 -- 4.3.1 commands go into FOpts, on port 0 into the payload
-abbrev pub fopts_of : FPort → List ℕ → List ℕ
+abbrev pub fopts_of : Option ℕ → List ℕ → List ℕ
 fopts_of port commands = pick (is_zero port) [] commands
 
-abbrev pub body_of : FPort → List ℕ → List ℕ → List ℕ
+abbrev pub body_of : Option ℕ → List ℕ → List ℕ → List ℕ
 body_of port commands body = pick (is_zero port) commands body
 
 -- MHDR, DevAddr, FCtrl with FOptsLen in its low nibble, FCnt low byte first: the eight bytes that every data frame

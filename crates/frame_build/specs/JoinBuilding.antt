@@ -21,10 +21,6 @@ cf_list_bytes_of channels =
     frequency_bytes (at channels 0) ++ frequency_bytes (at channels 1) ++ frequency_bytes (at channels 2)
     ++ frequency_bytes (at channels 3) ++ frequency_bytes (at channels 4) ++ 0 ∷ []
 
--- its byte at an index: three of each frequency
-abbrev pub list_byte_of : List ℕ → ℕ → ℕ
-list_byte_of channels i = pick (ltb i 15) (at (frequency_bytes (at channels (i / 3))) (i % 3)) 0
-
 -- MHDR, AppNonce, NetID, DevAddr, DLSettings and RxDelay
 unfoldable pub accept_head_of : JoinAcceptParts → List ℕ
 accept_head_of j = 32 ∷ (j.app_nonce ++ j.net_id ++ j.dev_addr ++ j.dl_settings ∷ j.rx_delay ∷ [])

@@ -11,18 +11,12 @@ use Rattle.base.specs.Storing.{Put, Stored}
 use Rattle.base.proofs.Put.{then, renamed, put_length}
 use Rattle.base.proofs.StoringLaws.{fitted}
 use Rattle.frame.specs.declared.join_fields.JoinRequestFields.{JoinRequestFields}
-use Rattle.frame.specs.declared.join_fields.JoinAcceptFields.{JoinAcceptFields}
-use Rattle.frame_c.specs.CStored.{request_bytes, accept_fixed, four_each}
+use Rattle.frame_c.specs.CStored.{request_bytes, four_each}
 
 pub request_long : (j : JoinRequestFields) → length j.app_eui ≡ 8 → length j.dev_eui ≡ 8
     → length j.dev_nonce ≡ 2 → length j.mic ≡ 4 → length (request_bytes j) ≡ 22
 unfolding request_bytes
 request_long j a d n m = simp length-append (omega arith)
-
-pub fixed_long : (j : JoinAcceptFields) → length j.app_nonce ≡ 3 → length j.net_id ≡ 3
-    → length j.dev_addr ≡ 4 → length j.masks ≡ 9 → length (accept_fixed j) ≡ 22
-unfolding accept_fixed
-fixed_long j a n d m = simp length-append (omega arith)
 
 pub four_each_long : (n : ℕ) (q : List ℕ) → length (four_each n q) ≡ 4 * n
 unfolding four_each

@@ -1,49 +1,44 @@
--- A call that stores its answer's bytes keeps its promise where it is refused and stores nothing, and where there is room
+-- A call that stores the bytes of what was found keeps its promise where it is refused and stores nothing, and where there is room
 -- and the bytes stand at the start of the output.
 -- Assumes nothing.
-use mathlib.Core.Path.{◌≡◌, sym, ap, ◌∙◌}
-use mathlib.Core.Bool.{Bool}
-use mathlib.Core.List.{List, ◌++◌}
-use Prim.Native.Nat.{ℕ, ◌<◌, ◌≤◌}
-use native.Mathlib.Omega.{arith}
-use lib.Dec.{eqb}
-use lib.ListN.{length, drop}
-use borrow.Author.Tests.{lt-ltb, eq-eqb, ne_eqb}
+use Rattle.std.proofs.Common.{◌≡◌, ◌++◌, ◌≤◌, ◌<◌, List, ℕ, Result, Ok, Err, length, drop, sym, ap, ◌∙◌, rules}
+use borrow.Author.Tests.{lt-ltb}
 use Rattle.base.specs.Bytes.{pick}
-use Rattle.base.proofs.Cases.{by_order, by_equal}
 use Rattle.base.specs.Storing.{Put}
+use Rattle.base.proofs.Cases.{by_order}
 use Rattle.base.proofs.Put.{put_front}
-use Rattle.frame_build.specs.DataFrames.{out_of}
 use Rattle.frame.specs.PackedReading.{numbered}
-use Rattle.frame_c.specs.CAnswers.{or_short_of, Fills}
+use Rattle.frame.specs.Refusals.{refused, refusal_in, by_result}
+use Rattle.frame.specs.declared.refusals.Refusal.{Refusal}
+use Rattle.frame_c.specs.CAnswers.{refusal_answer_of}
+use Rattle.frame_c.specs.CStored.{stored_in, Fills}
 
--- without room the answer is 7, or the refusal that comes first
-no_room : (n k room : ℕ) → room < k → or_short_of n k room ≡ 0 → ⊥
-unfolding or_short_of
-no_room n k room h e =
-    let q : pick (eqb n 0) 7 n ≡ 0 = ap (λ (b : Bool). pick (eqb n 0) (pick b 7 0) n) (sym (lt-ltb room k h)) ∙ e in
-    by_equal n 0
-    (λ z. let seven : ◌≡◌ {A = ℕ} 7 0 = ap (λ (b : Bool). pick b 7 n) (sym (eq-eqb n 0 z)) ∙ q in omega arith)
-    (λ z. z (ap (λ (b : Bool). pick b 7 n) (sym (ne_eqb n 0 z)) ∙ q))
+-- what is stored has room
+ok_not_short : {A : Type 0} (x : A) {y : A} (count room : ℕ) → room < count → stored_in (Ok x) count room ≡ Ok y → ⊥
+ok_not_short {A} x {y} count room h e =
+    let short : ◌≡◌ {A = Result A Refusal} (Err (refused 7)) (stored_in (Ok x) count room) =
+    sym (ap (λ b. pick {A = Result A Refusal} b (Err (refused 7)) (Ok x)) (lt-ltb room count h)) in
+    let none : ◌≡◌ {A = Result A Refusal} (Err (refused 7)) (Ok y) = short ∙ e in
+    search rules
 
-pub room_left : (n k room : ℕ) {x : ℕ} → x ≡ or_short_of n k room → x ≡ 0 → k ≤ room
-room_left n k room e z = by_order k room (λ h. h) (λ h. absurd (no_room n k room h (sym e ∙ z)))
+pub room_left : {A : Type 0} (found : Result A Refusal) {x : A} (count room : ℕ) → stored_in found count room ≡ Ok x → count ≤ room
+room_left (Ok y) count room e = by_order count room (λ h. h) (λ h. absurd (ok_not_short y count room h e))
+room_left (Err r) count room e = search rules
 
-pub refused : {n p x : ℕ} {b l : List ℕ} {r : ℕ} → x ≡ n → (x ≡ 0 → ⊥) → r ≡ numbered x p → Fills n p b l r l
-refused {n} {p} {x} {b} {l} {r} e h a =
+pub not_stored : {A : Type 0} {k : Result A Refusal} {q : Refusal} {bytes : A → List ℕ} {l : List ℕ} {r : ℕ} → k ≡ Err q
+    → r ≡ refusal_answer_of q → Fills k bytes l r l
+not_stored {bytes = bytes} {l = l} e a =
     record {
-      answer = a ∙ ap (λ (k : ℕ). numbered k p) e;
-      output = sym (ap (λ (t : Bool). pick t (b ++ drop (length b) l) l) (ne_eqb n 0 (λ z. h (e ∙ z))));
+      answer = a ∙ ap (λ k. refusal_answer_of (refusal_in k)) (sym e);
+      output = ap (λ k. by_result (λ x. bytes x ++ drop (length (bytes x)) l) (λ q. l) k) (sym e);
     }
 
-pub stored : (m k : ℕ) {p x : ℕ} {b l e : List ℕ} {r j : ℕ} → x ≡ or_short_of m k (length l) → x ≡ 0 → length b ≡ k
-    → r ≡ numbered 0 p
-    → Put l 0 b j e
-    → Fills (or_short_of m k (length l)) p b l r e
-stored m k {p} {x} {b} {l} {e} {r} {j} u z w a put =
-    let none : or_short_of m k (length l) ≡ 0 = sym u ∙ z in
-    let room : length b ≤ length l = omega (arith, w, room_left m k (length l) u z) in
+pub stored : {A : Type 0} {k : Result A Refusal} {x : A} {bytes : A → List ℕ} {l e : List ℕ} {r j : ℕ} → k ≡ Ok x
+    → length (bytes x) ≤ length l → r ≡ numbered 0 0 → Put l 0 (bytes x) j e → Fills k bytes l r e
+stored {bytes = bytes} {l = l} q room a put =
     record {
-      answer = a ∙ ap (λ (n : ℕ). numbered n p) (sym none);
-      output = put_front put room ∙ ap (λ (n : ℕ). out_of n b l) (sym none);
+      answer = a ∙ ap (λ k. refusal_answer_of (refusal_in k)) (sym q);
+      output =
+          put_front put room
+          ∙ ap (λ k. by_result (λ x. bytes x ++ drop (length (bytes x)) l) (λ q. l) k) (sym q);
     }

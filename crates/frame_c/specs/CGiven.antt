@@ -1,16 +1,14 @@
 -- What the codec's calls take of the numbers and bytes that a caller in C gives: keys that may be given, the parts of a frame to
 -- build, and the refusals of a type that is not one of data.
 -- Assumes nothing.
-use Rattle.std.specs.Prelude.{Bool, List, [], ◌∷◌, ℕ, ◌/◌, ◌%◌, ltb, eqb}
+use Rattle.std.specs.Prelude.{Bool, List, [], ◌∷◌, ℕ, ◌/◌, ◌%◌, ltb, eqb, None, Option, Some}
+use Rattle.std.specs.Bool.{then_some}
 use Rattle.base.specs.Bytes.{pick, at}
 use Rattle.frame_bits.specs.Fctrl.{uplink_of, confirmed_of}
-use Rattle.frame.specs.declared.parser.FPort.{FPort}
-use Rattle.frame.specs.declared.parser.FPort.TheVariants.{Absent, Port}
 use Rattle.frame_build.specs.declared.creator.data_frame.DataParts.{DataParts}
 use Rattle.frame_build.specs.declared.creator.join.JoinAcceptParts.{JoinAcceptParts}
 use Rattle.frame_build.specs.DataBuilding.{data_refusal_of}
 use Rattle.frame_build.specs.declared.creator.join.JoinRequestParts.{JoinRequestParts}
-use Rattle.frame.specs.declared.keys.MaybeKey.{MaybeKey}
 
 -- of AppNonce, NetID, DevAddr, DLSettings and RxDelay, twelve bytes in frame order
 unfoldable pub accept_parts_of : List ℕ → Bool → JoinAcceptParts
@@ -25,8 +23,8 @@ accept_parts_of f with_list =
     }
 
 -- a port is below 256; a number above says that there is none
-unfoldable pub port_given_by : ℕ → FPort
-port_given_by n = pick (ltb n 256) (Port n) Absent
+unfoldable pub port_given_by : ℕ → Option ℕ
+port_given_by n = pick (ltb n 256) (Some n) None
 
 -- a data frame, by its type
 abbrev pub data_parts_of : ℕ → List ℕ → ℕ → ℕ → ℕ → DataParts
@@ -41,11 +39,11 @@ data_parts_of kind dev_addr_of fctrl counter port =
     }
 
 -- which keys are given: 1 the network key, 2 the application key, 3 both
-unfoldable pub nwk_given : ℕ → List ℕ → MaybeKey
-nwk_given keys key = record { given = eqb (keys % 2) 1; key = key }
+unfoldable pub nwk_given : ℕ → List ℕ → Option (List ℕ)
+nwk_given keys key = then_some (eqb (keys % 2) 1) key
 
-unfoldable pub app_given : ℕ → List ℕ → MaybeKey
-app_given keys key = record { given = eqb (keys / 2 % 2) 1; key = key }
+unfoldable pub app_given : ℕ → List ℕ → Option (List ℕ)
+app_given keys key = then_some (eqb (keys / 2 % 2) 1) key
 
 abbrev pub request_parts_of : List ℕ → List ℕ → List ℕ → JoinRequestParts
 request_parts_of app_eui_of dev_eui_of dev_nonce_of =

@@ -1,9 +1,9 @@
 // Amendments.
 ghost use Rattle.std.specs.Prelude.{◌≡◌};
 ghost use Rattle.amend.specs.AmendmentLists.{amend_frame_of, amended_frame};
-ghost use Rattle.frame_c.specs.CAnswers.{refusal_answer_of};
+ghost use Rattle.frame_c.specs.CAnswers.{done_answer_of};
 
-use crate::conversions::answers::refusal_answer;
+use crate::conversions::answers::done_answer;
 
 pub fn zinovoky_amend(
     frame: &mut [u8],
@@ -13,7 +13,7 @@ pub fn zinovoky_amend(
     amendments: &[u32],
 ) -> u64
     ensures value { result
-        ≡ refusal_answer_of
+        ≡ done_answer_of
         (amend_frame_of frame.old nwk_skey.now app_skey.now counter
         amendments.now) }
     ensures frame_after { frame.new
@@ -22,6 +22,6 @@ pub fn zinovoky_amend(
 {
     let nwk = *nwk_skey;
     let app = *app_skey;
-    let outcome = amend::list::amend_frame(frame, nwk, app, counter, amendments);
-    refusal_answer(outcome)
+    let done = amend::list::amend_frame(frame, nwk, app, counter, amendments);
+    done_answer(done)
 }

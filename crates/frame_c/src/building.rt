@@ -6,7 +6,8 @@ ghost use Rattle.frame_build.specs.JoinFrames.{join_request_of, join_accept_of};
 ghost use Rattle.frame_c.specs.CGiven.{accept_parts_of, data_parts_of, request_parts_of, data_refused};
 ghost use Rattle.frame_c.specs.CAnswers.{BuildsInC};
 
-use crate::conversions::building::{accept_parts, built_answer, data_parts};
+use crate::conversions::answers::value_answer;
+use crate::conversions::building::{accept_parts, data_parts};
 use frame::packed::numbered_bits;
 use frame::refusals::{INVALID_DATA, INVALID_MESSAGE_TYPE};
 use frame_build::creator::join::JoinRequestParts;
@@ -33,7 +34,7 @@ pub fn zinovoky_build_join_request(
         dev_nonce: nonce,
     };
     let built = frame_build::creator::join::build_join_request(parts, key, out);
-    built_answer(built)
+    value_answer(built)
 }
 
 pub fn zinovoky_build_join_accept(
@@ -53,7 +54,7 @@ pub fn zinovoky_build_join_accept(
     let bytes = *fixed;
     let parts = accept_parts(bytes, with_list == 1);
     let built = frame_build::creator::join::build_join_accept(parts, channels, key, out);
-    built_answer(built)
+    value_answer(built)
 }
 
 pub fn zinovoky_build_data(
@@ -88,5 +89,5 @@ pub fn zinovoky_build_data(
     let built = frame_build::creator::data_frame::build_data(
         parts, commands, payload, nwk, app, out,
     );
-    built_answer(built)
+    value_answer(built)
 }

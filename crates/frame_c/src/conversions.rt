@@ -2,7 +2,6 @@
 // as bytes, the parts of a frame from the numbers and bytes that a caller gives.
 pub(crate) mod answers;
 pub(crate) mod building;
-pub(crate) mod commands;
 pub(crate) mod opening;
 pub(crate) mod reading;
 pub(crate) mod storing;

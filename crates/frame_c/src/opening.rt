@@ -4,13 +4,12 @@ ghost use Rattle.frame_opening.specs.FrameOpening.{join_request_test, join_accep
 ghost use Rattle.frame_opening.specs.JoinAcceptOpening.{accept_opened};
 ghost use Rattle.frame_opening.specs.SessionKeys.{session_keys_of};
 ghost use Rattle.frame_opening.specs.CheckedOpening.{data_opened_checked, accept_opened_checked};
-ghost use Rattle.frame_c.specs.CAnswers.{test_answer_of, passes_of, opening_answer_of};
+ghost use Rattle.frame_c.specs.CAnswers.{test_answer_of, passes_of, done_answer_of};
 ghost use Rattle.frame_c.specs.CStored.{KeysInto};
 ghost use Rattle.frame_c.specs.CGiven.{nwk_given, app_given};
 
-use crate::conversions::answers::{opening_answer, test_answer};
+use crate::conversions::answers::{done_answer, test_answer};
 use crate::conversions::opening::store_keys;
-use frame::keys::MaybeKey;
 
 pub fn zinovoky_join_request_mic(frame: &[u8], app_key: &[u8; 16], passes: &mut u8) -> u64
     ensures value { result ≡ test_answer_of (join_request_test app_key.now frame.now) }
@@ -50,7 +49,7 @@ pub fn zinovoky_decrypt_data(
     counter: u32,
 ) -> u64
     ensures value { result
-        ≡ opening_answer_of
+        ≡ done_answer_of
         (data_opened (nwk_given keys_given nwk_skey.now) (app_given keys_given app_skey.now) counter
         frame.old).answer }
     ensures frame_after { frame.new
@@ -59,16 +58,10 @@ pub fn zinovoky_decrypt_data(
 {
     let nwk_key = *nwk_skey;
     let app_key = *app_skey;
-    let nwk = MaybeKey {
-        given: keys_given % 2 == 1,
-        key: nwk_key,
-    };
-    let app = MaybeKey {
-        given: keys_given / 2 % 2 == 1,
-        key: app_key,
-    };
+    let nwk = (keys_given % 2 == 1).then_some(nwk_key);
+    let app = (keys_given / 2 % 2 == 1).then_some(app_key);
     let opening = frame_opening::payload::decrypt_data(frame, nwk, app, counter);
-    opening_answer(opening)
+    done_answer(opening)
 }
 
 pub fn zinovoky_decrypt_data_checked(
@@ -79,7 +72,7 @@ pub fn zinovoky_decrypt_data_checked(
     counter: u32,
 ) -> u64
     ensures value { result
-        ≡ opening_answer_of
+        ≡ done_answer_of
         (data_opened_checked nwk_skey.now (app_given keys_given app_skey.now) counter
         frame.old).answer }
     ensures frame_after { frame.new
@@ -88,30 +81,27 @@ pub fn zinovoky_decrypt_data_checked(
 {
     let nwk_key = *nwk_skey;
     let app_key = *app_skey;
-    let app = MaybeKey {
-        given: keys_given / 2 % 2 == 1,
-        key: app_key,
-    };
+    let app = (keys_given / 2 % 2 == 1).then_some(app_key);
     let opening = frame_opening::default_crypto::decrypt_data_checked(frame, nwk_key, app, counter);
-    opening_answer(opening)
+    done_answer(opening)
 }
 
 pub fn zinovoky_decrypt_join_accept(frame: &mut [u8], app_key: &[u8; 16]) -> u64
-    ensures value { result ≡ opening_answer_of (accept_opened app_key.now frame.old).answer }
+    ensures value { result ≡ done_answer_of (accept_opened app_key.now frame.old).answer }
     ensures frame_after { frame.new ≡ (accept_opened app_key.now frame.old).bytes }
 {
     let key = *app_key;
     let opening = frame_opening::join_accept::decrypt_join_accept(frame, key);
-    opening_answer(opening)
+    done_answer(opening)
 }
 
 pub fn zinovoky_decrypt_join_accept_checked(frame: &mut [u8], app_key: &[u8; 16]) -> u64
-    ensures value { result ≡ opening_answer_of (accept_opened_checked app_key.now frame.old).answer }
+    ensures value { result ≡ done_answer_of (accept_opened_checked app_key.now frame.old).answer }
     ensures frame_after { frame.new ≡ (accept_opened_checked app_key.now frame.old).bytes }
 {
     let key = *app_key;
     let opening = frame_opening::default_crypto::decrypt_join_accept_checked(frame, key);
-    opening_answer(opening)
+    done_answer(opening)
 }
 
 pub fn zinovoky_session_keys(

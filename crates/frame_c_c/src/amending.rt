@@ -1,7 +1,7 @@
 // Amendments.
 ghost use Rattle.std.specs.Prelude.{◌≡◌};
 ghost use Rattle.amend.specs.AmendmentLists.{amend_frame_of, amended_frame};
-ghost use Rattle.frame_c.specs.CAnswers.{refusal_answer_of};
+ghost use Rattle.frame_c.specs.CAnswers.{done_answer_of};
 
 #[unsafe(no_mangle)]
 pub extern "C" fn zinovoky_amend(
@@ -12,7 +12,7 @@ pub extern "C" fn zinovoky_amend(
     amendments: &[u32],
 ) -> u64
     ensures value { result
-        ≡ refusal_answer_of
+        ≡ done_answer_of
         (amend_frame_of frame.old nwk_skey.now app_skey.now counter
         amendments.now) }
     ensures frame_after { frame.new

@@ -2,7 +2,8 @@
 ghost use Rattle.std.specs.Prelude.{◌≡◌, eqb, length};
 ghost use Rattle.mac_commands.specs.Commands.{step_at, fields_written, fields_in};
 ghost use Rattle.command_numbers.specs.Numbers.{id_given, values_given};
-ghost use Rattle.frame_c.specs.CCommands.{step_answer, step_into, written_answer_of};
+ghost use Rattle.frame_c.specs.CAnswers.{value_answer_of};
+ghost use Rattle.frame_c.specs.CCommands.{step_answer, step_into};
 
 #[unsafe(no_mangle)]
 pub extern "C" fn zinovoky_read_command(
@@ -25,7 +26,7 @@ pub extern "C" fn zinovoky_write_command(
     offset: usize,
 ) -> u64
     ensures value { result
-        ≡ written_answer_of
+        ≡ value_answer_of
         (fields_written (eqb uplink 1) (id_given command.now) (values_given (eqb uplink 1) command.now)
         (length out.old) offset) }
     ensures out_after { out.new

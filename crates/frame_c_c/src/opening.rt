@@ -4,7 +4,7 @@ ghost use Rattle.frame_opening.specs.FrameOpening.{join_request_test, join_accep
 ghost use Rattle.frame_opening.specs.JoinAcceptOpening.{accept_opened};
 ghost use Rattle.frame_opening.specs.SessionKeys.{session_keys_of};
 ghost use Rattle.frame_opening.specs.CheckedOpening.{data_opened_checked, accept_opened_checked};
-ghost use Rattle.frame_c.specs.CAnswers.{test_answer_of, passes_of, opening_answer_of};
+ghost use Rattle.frame_c.specs.CAnswers.{test_answer_of, passes_of, done_answer_of};
 ghost use Rattle.frame_c.specs.CStored.{KeysInto};
 ghost use Rattle.frame_c.specs.CGiven.{nwk_given, app_given};
 
@@ -53,7 +53,7 @@ pub extern "C" fn zinovoky_decrypt_data(
     counter: u32,
 ) -> u64
     ensures value { result
-        ≡ opening_answer_of
+        ≡ done_answer_of
         (data_opened (nwk_given keys_given nwk_skey.now) (app_given keys_given app_skey.now) counter
         frame.old).answer }
     ensures frame_after { frame.new
@@ -72,7 +72,7 @@ pub extern "C" fn zinovoky_decrypt_data_checked(
     counter: u32,
 ) -> u64
     ensures value { result
-        ≡ opening_answer_of
+        ≡ done_answer_of
         (data_opened_checked nwk_skey.now (app_given keys_given app_skey.now) counter
         frame.old).answer }
     ensures frame_after { frame.new
@@ -84,7 +84,7 @@ pub extern "C" fn zinovoky_decrypt_data_checked(
 
 #[unsafe(no_mangle)]
 pub extern "C" fn zinovoky_decrypt_join_accept(frame: &mut [u8], app_key: &[u8; 16]) -> u64
-    ensures value { result ≡ opening_answer_of (accept_opened app_key.now frame.old).answer }
+    ensures value { result ≡ done_answer_of (accept_opened app_key.now frame.old).answer }
     ensures frame_after { frame.new ≡ (accept_opened app_key.now frame.old).bytes }
 {
     frame_c::opening::zinovoky_decrypt_join_accept(frame, app_key)
@@ -92,7 +92,7 @@ pub extern "C" fn zinovoky_decrypt_join_accept(frame: &mut [u8], app_key: &[u8; 
 
 #[unsafe(no_mangle)]
 pub extern "C" fn zinovoky_decrypt_join_accept_checked(frame: &mut [u8], app_key: &[u8; 16]) -> u64
-    ensures value { result ≡ opening_answer_of (accept_opened_checked app_key.now frame.old).answer }
+    ensures value { result ≡ done_answer_of (accept_opened_checked app_key.now frame.old).answer }
     ensures frame_after { frame.new ≡ (accept_opened_checked app_key.now frame.old).bytes }
 {
     frame_c::opening::zinovoky_decrypt_join_accept_checked(frame, app_key)

@@ -1,78 +1,58 @@
 -- What the proofs of the checked openings cite: opening a data frame after a test of its MIC, by the answers of both calls;
 -- a join-accept decrypted in a copy, which reads as it did; and storing the copy where the test is passed.
 -- Assumes nothing.
+use Rattle.std.specs.Prelude.{Err, Ok, Option, Some, Result}
 use mathlib.Core.Path.{◌≡◌, refl, ap, ◌∙◌}
-use mathlib.Core.Bool.{Bool, true, false}
+use mathlib.Core.Bool.{Bool}
 use mathlib.Core.List.{List, ◌++◌, append-nil}
 use mathlib.Core.Logic.{⊎_elim}
-use Prim.Native.Nat.{ℕ, ◌-◌, ◌/◌, ◌%◌, ◌≤◌}
+use Prim.Native.Nat.{ℕ, ◌-◌, ◌≤◌}
 use native.Mathlib.Omega.{arith}
 use lib.ListN.{length, take, drop, drop_of_length-le}
 use lib.Seq.{take_at}
-use Rattle.base.specs.Bytes.{pick, at, part}
+use Rattle.base.specs.Bytes.{pick, part}
 use Rattle.base.specs.Storing.{Stored}
 use Rattle.base.proofs.Put.{put_front}
 use Rattle.base.proofs.StoringLaws.{fitted}
 use Rattle.frame.specs.Conditions.{IsJoinAccept}
-use Rattle.frame.specs.ReadingNumbers.{on_accept, on_data}
+use Rattle.frame.specs.ReadingNumbers.{on_data}
 use Rattle.frame.specs.Reading.{read_of}
-use Rattle.frame.specs.Refusals.{refused}
+use Rattle.frame.specs.Refusals.{refused, by_result}
 use Rattle.frame_security.specs.Security.{frame_key}
-use Rattle.frame.specs.declared.keys.MaybeKey.{MaybeKey}
 use Rattle.frame.specs.declared.parser.DataFrame.{DataFrame}
-use Rattle.frame.specs.declared.parser.Reading.{Reading}
-use Rattle.frame.specs.declared.parser.Reading.TheVariants.{JoinRequest, JoinAccept, Data, Refused as RefusedReading}
-use Rattle.frame.proofs.ReadingLaws.{reads_accept, accept_read}
+use Rattle.frame.specs.declared.refusals.Refusal.{Refusal}
+use Rattle.frame.specs.Reading.{Reading}
+use Rattle.frame.specs.declared.parser.Frame.TheVariants.{JoinRequest, JoinAccept, Data}
+use Rattle.frame.proofs.ReadingLaws.{accept_read}
 use Rattle.frame_security.specs.JoinAcceptCipher.{accept_decrypted}
-use Rattle.frame_opening.specs.JoinAcceptOpening.{accept_opened}
-use Rattle.frame_opening.specs.FrameOpening.{join_passes, data_passes, answered, join_accept_test, data_test_of, test_passes, Result, outcome, unopened, opened_under, data_opened, given_key}
-use Rattle.frame_opening.specs.declared.mic_tests.MicTest.{MicTest}
-use Rattle.frame_opening.specs.declared.mic_tests.MicTest.TheVariants.{Passes, Fails, Refused as RefusedTest}
-use Rattle.frame_opening.specs.declared.payload.Opening.{Opening}
-use Rattle.frame_opening.specs.declared.payload.Opening.TheVariants.{Opened}
-use Rattle.frame_security.proofs.AcceptBlocks.{clear_first, clear_long}
-use Rattle.frame_opening.specs.CheckedOpening.{opening_after_of, opened_tested, data_opened_checked}
+use Rattle.frame_opening.specs.FrameOpening.{join_passes, data_passes, data_test_of, Outcome, unopened, opened_under, data_opened}
+use Rattle.frame_security.proofs.AcceptBlocks.{clear_long}
+use Rattle.frame_opening.specs.CheckedOpening.{opened_tested, data_opened_checked}
 
 -- ---- a data frame: what opening it after a test gives, by the test and by what opening it without one gives
 
-abbrev after_test : List ℕ → Result → MicTest → Result
-after_test f x Passes = x
-after_test f x Fails = unopened f (refused 5)
-after_test f x (RefusedTest r) = unopened f r
-
-tested_reading : (f : List ℕ) (b : Bool) (x : DataFrame → Result) (r : Reading)
-    → after_test f (on_data x (unopened f) r) (on_data (λ d. answered b) RefusedTest r)
+tested_reading : (f : List ℕ) (b : Bool) (x : DataFrame → Outcome) (r : Reading)
+    → by_result (λ c. pick c (on_data x (unopened f) r) (unopened f (refused 5))) (unopened f) (on_data (λ d. Ok b) Err r)
     ≡ on_data (λ d. pick b (x d) (unopened f (refused 5))) (unopened f) r
-tested_reading f b x JoinRequest = refl
-tested_reading f b x (JoinAccept n) = refl
-tested_reading f true x (Data d) = refl
-tested_reading f false x (Data d) = refl
-tested_reading f b x (RefusedReading r) = refl
+tested_reading f b x (Ok JoinRequest) = refl
+tested_reading f b x (Ok (JoinAccept n)) = refl
+tested_reading f b x (Ok (Data d)) = refl
+tested_reading f b x (Err r) = refl
 
-module _ (nwk : List ℕ) (app : MaybeKey) (counter : ℕ) (f : List ℕ) where
-  after_test_lem : (t : MicTest) → t ≡ data_test_of nwk counter f
-      → after_test f (data_opened (given_key nwk) app counter f) t ≡ data_opened_checked nwk app counter f
-  unfolding data_test_of data_opened data_opened_checked opened_tested
-  after_test_lem t q =
-      ap (after_test f (data_opened (given_key nwk) app counter f)) q
-      ∙ tested_reading f (data_passes nwk counter f) (λ d. opened_under (frame_key f (given_key nwk) app) counter f) (read_of f)
+abbrev pub by_test : List ℕ → Option (List ℕ) → ℕ → List ℕ → Result Bool Refusal → Outcome
+by_test nwk app counter f t =
+    by_result (λ right. pick right (data_opened (Some nwk) app counter f) (unopened f (refused 5))) (unopened f) t
 
-  -- a test that is not passed is the answer
-  pub checked_refuses : (t : MicTest) → t ≡ data_test_of nwk counter f → (t ≡ Passes → ⊥)
-      → outcome (opening_after_of t) f ≡ data_opened_checked nwk app counter f
-  checked_refuses Passes q h = absurd (h refl)
-  checked_refuses Fails q h = after_test_lem Fails q
-  checked_refuses (RefusedTest r) q h = after_test_lem (RefusedTest r) q
-
-  -- a frame that passes is opened
-  pub checked_opens : Passes ≡ data_test_of nwk counter f
-      → data_opened (given_key nwk) app counter f ≡ data_opened_checked nwk app counter f
-  checked_opens q = after_test_lem Passes q
+pub checked : (nwk : List ℕ) (app : Option (List ℕ)) (counter : ℕ) (f : List ℕ)
+    → by_test nwk app counter f (data_test_of nwk counter f) ≡ data_opened_checked nwk app counter f
+unfolding data_test_of data_opened data_opened_checked opened_tested
+checked nwk app counter f =
+    tested_reading f (data_passes nwk counter f) (λ d. opened_under (frame_key f (Some nwk) app) counter f) (read_of f)
 
 -- ---- a join-accept
 
 -- its length is that of the reading
-pub accept_read_long : (f : List ℕ) {n : ℕ} → read_of f ≡ JoinAccept n → IsJoinAccept f (length f)
+pub accept_read_long : (f : List ℕ) {n : ℕ} → read_of f ≡ Ok (JoinAccept n) → IsJoinAccept f (length f)
 accept_read_long f q =
     let h = accept_read f q in
     record { version = h.version; type = h.type; long = refl; either = rw h.long h.either }
@@ -81,52 +61,21 @@ module _ (key f : List ℕ) (h : IsJoinAccept f (length f)) where
   pub accept_long : (17 ≤ length f) × (length f ≤ 33)
   accept_long = ⊎_elim (λ k. (omega arith, omega arith)) (λ k. (omega arith, omega arith)) h.either
 
-  -- decrypted, it reads as it did
-  clear_reads : read_of (accept_decrypted key f) ≡ JoinAccept (length f)
-  clear_reads =
-      let first : at (accept_decrypted key f) 0 ≡ at f 0 = clear_first key f (omega (arith, accept_long.0)) in
-      reads_accept (accept_decrypted key f) (length f) (
-      record {
-        version = ap (λ (b : ℕ). b % 4) first ∙ h.version;
-        type = ap (λ (b : ℕ). b / 32) first ∙ h.type;
-        long = clear_long key f;
-        either = h.either;
-      }
-      )
-
   -- a copy of it whose first bytes, those of f, were lent, decrypted and put back
-  pub copy_clear : (copy t : List ℕ) (a : Opening) → take (length f) copy ≡ f → outcome a t ≡ accept_opened key (part 0 (length f - 0) copy)
+  pub copy_clear : (copy t : List ℕ) → take (length f) copy ≡ f → t ≡ accept_decrypted key (part 0 (length f - 0) copy)
       → take (length f) (take 0 copy ++ (t ++ drop (length f - 0) (drop 0 copy))) ≡ accept_decrypted key f
-  unfolding accept_opened
-  copy_clear copy t a c e =
+  copy_clear copy t c e =
       let z : length f - 0 ≡ length f = omega arith in
-      let clear : t ≡ accept_decrypted key f =
-      ap (λ (r : Result). r.bytes)
-      (e
-      ∙ ap (accept_opened key) (ap (λ (n : ℕ). take n copy) z ∙ c)
-      ∙ ap (on_accept (λ n. outcome Opened (accept_decrypted key f)) (unopened f)) (reads_accept f (length f) h)) in
+      let clear : t ≡ accept_decrypted key f = e ∙ ap (accept_decrypted key) (ap (λ (n : ℕ). take n copy) z ∙ c) in
       let l : length t ≡ length f = ap length clear ∙ clear_long key f in
       take_at t (drop (length f - 0) copy) (length f) l ∙ clear
 
   -- the test of that copy's first bytes
   pub copy_test : (copy : List ℕ) → take (length f) copy ≡ accept_decrypted key f
-      → join_accept_test key (part 0 (length f - 0) copy) ≡ answered (join_passes key (accept_decrypted key f))
-  unfolding join_accept_test
+      → join_passes key (part 0 (length f - 0) copy) ≡ join_passes key (accept_decrypted key f)
   copy_test copy c =
       let z : length f - 0 ≡ length f = omega arith in
-      ap (join_accept_test key) (ap (λ (n : ℕ). take n copy) z ∙ c)
-      ∙ ap (on_accept (λ n. answered (join_passes key (accept_decrypted key f))) RefusedTest) clear_reads
-
--- the copy is stored where the test is passed, and nothing is written where it is not
-pub stored : (b : Bool) (f g : List ℕ) → test_passes (answered b) ≡ true
-    → outcome (opening_after_of (answered b)) g ≡ pick b (outcome Opened g) (unopened f (refused 5))
-stored true f g h = refl
-stored false f g h = cc
-
-pub not_stored : (b : Bool) (f g : List ℕ) → test_passes (answered b) ≡ false
-    → outcome (opening_after_of (answered b)) f ≡ pick b (outcome Opened g) (unopened f (refused 5))
-not_stored true f g h = cc
-not_stored false f g h = refl
+      ap (join_passes key) (ap (λ (n : ℕ). take n copy) z ∙ c)
 
 -- ---- copies
 

@@ -1,6 +1,7 @@
 -- What the proofs of the MIC tests and the openings cite: the case of a reading that a call needs, a choice by a test, a
 -- payload done where it lies, and the choice of its key.
 -- Assumes nothing.
+use Rattle.std.specs.Prelude.{Ok}
 use mathlib.Core.Path.{◌≡◌, sym, ap, ap₂, ◌∙◌}
 use mathlib.Core.Bool.{Bool, true, false}
 use mathlib.Core.List.{List}
@@ -12,18 +13,14 @@ use Rattle.base.specs.Bytes.{pick, part}
 use Rattle.base.specs.Storing.{run_at}
 use Rattle.frame_security.specs.Mic.{same_bytes}
 use Rattle.frame.specs.Layout.{fcnt, fhdr_length_of, header_end_of, header, payload, payload_end_of, mic_of}
-use Rattle.frame.specs.ReadingNumbers.{other_refusal_of, on_request, on_accept, on_data}
 use Rattle.frame_opening.specs.FrameOpening.{decrypted}
 use Rattle.frame.specs.Reading.{read_of, data_of}
 use Rattle.frame.specs.declared.parser.DataFrame.{DataFrame}
-use Rattle.frame.specs.declared.parser.Reading.{Reading}
-use Rattle.frame.specs.declared.parser.Reading.TheVariants.{JoinRequest, JoinAccept, Data}
+use Rattle.frame.specs.declared.parser.Frame.TheVariants.{JoinRequest, JoinAccept, Data}
 use Rattle.frame.specs.Conditions.{IsData}
-use Rattle.frame.specs.declared.refusals.Refusal.{Refusal}
 use Rattle.frame.proofs.LayoutLaws.{placed, length-payload, mic_run}
 use Rattle.frame_security.specs.Security.{crypted_part, crypted_in, by_network_key_of, full_counter_of, covered}
 use Rattle.frame_security.proofs.SecurityLaws.{crypted_inside}
-use Rattle.frame.proofs.Others.{not_request, not_accept, not_data}
 use Rattle.frame.proofs.ReadingLaws.{request_read, accept_read, data_read}
 
 -- ---- a choice whose test is known
@@ -35,40 +32,18 @@ module _ {A : Type 0} (b : Bool) (x y : A) where
   pub pick_false : b ≡ false → pick b x y ≡ y
   pick_false t = ap (λ (c : Bool). pick c x y) t
 
--- ---- the reading that a call needs: what it answers at another, what at this, and what this says of the frame
-
-module _ {A : Type 0} (e : Refusal → A) (f : List ℕ) (r : Reading) (q : r ≡ read_of f) where
-  pub no_request : (x : A) → (r ≡ JoinRequest → ⊥)
-      → e (other_refusal_of r) ≡ on_request x e (read_of f)
-  no_request x h = sym (not_request e x r h) ∙ ap (on_request x e) q
-
-  pub a_request : (x : A) → r ≡ JoinRequest → x ≡ on_request x e (read_of f)
-  a_request x p = ap (on_request x e) (sym p ∙ q)
-
-  pub no_accept : (x : ℕ → A) → ((n : ℕ) → r ≡ JoinAccept n → ⊥)
-      → e (other_refusal_of r) ≡ on_accept x e (read_of f)
-  no_accept x h = sym (not_accept e x r h) ∙ ap (on_accept x e) q
-
-  pub a_accept : (x : ℕ → A) {n : ℕ} → r ≡ JoinAccept n → x n ≡ on_accept x e (read_of f)
-  a_accept x p = ap (on_accept x e) (sym p ∙ q)
-
-  pub no_data : (x : DataFrame → A) → ((d : DataFrame) → r ≡ Data d → ⊥)
-      → e (other_refusal_of r) ≡ on_data x e (read_of f)
-  no_data x h = sym (not_data e x r h) ∙ ap (on_data x e) q
-
-  pub a_data : (x : DataFrame → A) {d : DataFrame} → r ≡ Data d → x d ≡ on_data x e (read_of f)
-  a_data x p = ap (on_data x e) (sym p ∙ q)
+-- ---- what a reading of the type that a call needs says of the frame
 
 module _ (f : List ℕ) where
-  pub request_length : read_of f ≡ JoinRequest → length f ≡ 23
+  pub request_length : read_of f ≡ (Ok JoinRequest) → length f ≡ 23
   request_length q = (request_read f q).long
 
-  pub accept_length : {n : ℕ} → read_of f ≡ JoinAccept n → 17 ≤ length f
+  pub accept_length : {n : ℕ} → read_of f ≡ Ok (JoinAccept n) → 17 ≤ length f
   accept_length q =
       let h = accept_read f q in
       ⊎_elim (λ k. omega (arith, h.long)) (λ k. omega (arith, h.long)) h.either
 
-  pub data_length : {d : DataFrame} → read_of f ≡ Data d → 12 ≤ length f
+  pub data_length : {d : DataFrame} → read_of f ≡ Ok (Data d) → 12 ≤ length f
   data_length q = (data_read f q).least
 
 -- ---- the MIC

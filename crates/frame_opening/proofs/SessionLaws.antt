@@ -10,7 +10,6 @@ use Rattle.base.proofs.Tab.{tab-at}
 use Rattle.aes.specs.KeyExpansion.{key_expansion_of}
 use Rattle.aes.specs.Fips197.{cipher}
 use Rattle.frame.specs.Layout.{app_nonce_of, net_id_of}
-use Rattle.frame.specs.Refusals.{not_refused}
 use Rattle.frame_opening.specs.SessionKeys.{key_block_of, session_key}
 use Rattle.frame_opening.specs.declared.join_accept.SessionKeys.{SessionKeys}
 
@@ -36,4 +35,4 @@ session_key_lem first key nonce f ha hi hw hb hk =
     hk ∙ ap₂ (λ (v b : List ℕ). cipher v b) hw (hb ∙ ap₂ (λ (x y : List ℕ). key_block_of first x y nonce) ha hi)
 
 abbrev pub keys_of : List ℕ → List ℕ → SessionKeys
-keys_of nwk app = record { refusal = not_refused; nwk_skey = nwk; app_skey = app }
+keys_of nwk app = record { nwk_skey = nwk; app_skey = app }

@@ -1,10 +1,9 @@
 -- The session keys that a join-accept gives, from LoRaWAN 1.0 section 6.2.5: AES under AppKey of 1 (NwkSKey) or 2 (AppSKey),
--- AppNonce, NetID, DevNonce, and zeros. A frame of another type is refused, and gives zeros.
+-- AppNonce, NetID, DevNonce, and zeros. A frame of another type is refused.
 -- Assumes nothing.
-use Rattle.std.specs.Prelude.{List, ◌∷◌, ◌++◌, ℕ}
+use Rattle.std.specs.Prelude.{List, Result, Ok, Err, ◌∷◌, ◌++◌, ℕ}
 use Rattle.base.specs.Bytes.{zeros}
 use Rattle.frame.specs.Layout.{app_nonce_of, net_id_of}
-use Rattle.frame.specs.Refusals.{not_refused}
 use Rattle.frame.specs.declared.refusals.Refusal.{Refusal}
 use Rattle.aes.specs.KeyExpansion.{key_expansion_of}
 use Rattle.aes.specs.Fips197.{cipher}
@@ -21,13 +20,9 @@ session_key first key dev_nonce_of f = cipher (key_expansion_of key) (key_block_
 unfoldable pub derived_keys : List ℕ → List ℕ → List ℕ → SessionKeys
 derived_keys key dev_nonce_of f =
     record {
-      refusal = not_refused;
       nwk_skey = session_key 1 key dev_nonce_of f;
       app_skey = session_key 2 key dev_nonce_of f;
     }
 
-unfoldable pub no_keys_of : Refusal → SessionKeys
-no_keys_of r = record { refusal = r; nwk_skey = zeros 16; app_skey = zeros 16 }
-
-unfoldable pub session_keys_of : List ℕ → List ℕ → List ℕ → SessionKeys
-session_keys_of key dev_nonce_of f = on_accept (λ n. derived_keys key dev_nonce_of f) no_keys_of (read_of f)
+unfoldable pub session_keys_of : List ℕ → List ℕ → List ℕ → Result SessionKeys Refusal
+session_keys_of key dev_nonce_of f = on_accept (λ n. Ok (derived_keys key dev_nonce_of f)) Err (read_of f)

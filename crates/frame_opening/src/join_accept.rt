@@ -1,45 +1,39 @@
 // The decryption of join-accepts, and session keys (of the cryptographic half of parser.rs of the crate).
 ghost use Rattle.std.specs.Prelude.{◌≡◌, ◌≤◌, length};
-ghost use Rattle.frame.specs.ReadingNumbers.{other_refusal_of};
 ghost use Rattle.frame_security.specs.JoinAcceptCipher.{accept_decrypted};
 ghost use Rattle.frame_opening.specs.FrameOpening.{outcome};
 ghost use Rattle.frame_opening.specs.JoinAcceptOpening.{accept_opened};
-ghost use Rattle.frame_opening.specs.SessionKeys.{key_block_of, derived_keys, no_keys_of, session_keys_of};
+ghost use Rattle.frame_opening.specs.SessionKeys.{key_block_of, derived_keys, session_keys_of};
 
-use crate::payload::{Opening, no_opening};
-use base::storing::{put, three_at};
-use frame::numbers::other_refusal;
+use base::storing::{put, run_at};
 use frame::packet_length::{APP_NONCE_AT, NET_ID_AT};
-use frame::parser::{Reading, read};
+use frame::parser::read_as_join_accept;
 use frame::refusals::Refusal;
-use frame_security::ecb::each_block;
+use frame_security::ecb::encrypt_blocks;
 
-// The keys of a session (6.2.5), beside the refusal.
+// The keys of a session (6.2.5).
 #[derive(Clone, Copy)]
 pub struct SessionKeys {
-    pub refusal: Refusal,
     pub nwk_skey: [u8; 16],
     pub app_skey: [u8; 16],
 }
 
 // 6.2.5: what a device does to a join-accept, from byte 1.
-fn decrypt_accept(frame: &mut [u8], app_key: [u8; 16])
+#[tactic(auto, using(crate::proofs::AcceptLaws::lent_from_one))]
+pub(crate) fn decrypt_accept(frame: &mut [u8], app_key: [u8; 16])
     requires { 1 ≤ length frame.old }
     ensures { frame.new ≡ accept_decrypted app_key frame.old }
 {
-    each_block(app_key, false, &mut frame[1..]);
+    encrypt_blocks(app_key, &mut frame[1..]);
 }
 
 // Decrypts a join-accept where it lies, with no test of its MIC.
-pub fn decrypt_join_accept(frame: &mut [u8], app_key: [u8; 16]) -> Opening
+pub fn decrypt_join_accept(frame: &mut [u8], app_key: [u8; 16]) -> Result<(), Refusal>
     ensures { outcome result frame.new ≡ accept_opened app_key frame.old }
 {
-    let reading = read(frame);
-    let Reading::JoinAccept(_) = reading else {
-        return no_opening(reading);
-    };
+    read_as_join_accept(frame)?;
     decrypt_accept(frame, app_key);
-    Opening::Opened
+    Ok(())
 }
 
 // 6.2.5: the block whose cipher is a session key.
@@ -58,40 +52,28 @@ fn derive_keys(frame: &[u8], dev_nonce: [u8; 2], app_key: [u8; 16]) -> SessionKe
     requires { 7 ≤ length frame.now }
     ensures { result ≡ derived_keys app_key dev_nonce frame.now }
 {
-    let app_nonce = three_at(frame, APP_NONCE_AT);
-    let net_id = three_at(frame, NET_ID_AT);
+    let app_nonce = run_at(frame, APP_NONCE_AT);
+    let net_id = run_at(frame, NET_ID_AT);
     let schedule = aes::key_expansion::expand(app_key);
     let nwk_block = key_block(1, app_nonce, net_id, dev_nonce);
     let nwk_skey = aes::encrypt_under(&schedule, nwk_block);
     let app_block = key_block(2, app_nonce, net_id, dev_nonce);
     let app_skey = aes::encrypt_under(&schedule, app_block);
     SessionKeys {
-        refusal: Refusal {
-            number: 0,
-            place: 0,
-        },
         nwk_skey: nwk_skey,
         app_skey: app_skey,
     }
 }
 
-fn no_keys(reading: Reading) -> SessionKeys
-    ensures { result ≡ no_keys_of (other_refusal_of reading) }
-{
-    SessionKeys {
-        refusal: other_refusal(reading),
-        nwk_skey: [0u8; 16],
-        app_skey: [0u8; 16],
-    }
-}
-
 // The session keys that a clear join-accept gives a device with that DevNonce.
-pub fn session_keys(frame: &[u8], dev_nonce: [u8; 2], app_key: [u8; 16]) -> SessionKeys
+pub fn session_keys(
+    frame: &[u8],
+    dev_nonce: [u8; 2],
+    app_key: [u8; 16],
+) -> Result<SessionKeys, Refusal>
     ensures { result ≡ session_keys_of app_key dev_nonce frame.now }
 {
-    let reading = read(frame);
-    let Reading::JoinAccept(_) = reading else {
-        return no_keys(reading);
-    };
-    derive_keys(frame, dev_nonce, app_key)
+    // Only a join-accept has the nonces that keys are made of.
+    let _length = read_as_join_accept(frame)?;
+    Ok(derive_keys(frame, dev_nonce, app_key))
 }

@@ -2,29 +2,12 @@
 ghost use Rattle.std.specs.Prelude.{◌≡◌, ◌+◌, ◌≤◌, min};
 ghost use Rattle.frame.specs.Conditions.{IsData};
 ghost use Rattle.frame.specs.Reading.{data_of};
-ghost use Rattle.frame.specs.ReadingNumbers.{other_refusal_of};
 ghost use Rattle.frame_security.specs.Security.{frame_key};
 ghost use Rattle.frame_opening.specs.FrameOpening.{outcome, decrypted, opened_under, data_opened};
 
-use frame::keys::MaybeKey;
-use frame::numbers::other_refusal;
-use frame::parser::{DataFrame, Reading, read};
+use frame::parser::{DataFrame, read_as_data};
 use frame::refusals::{INVALID_KEY, Refusal};
 use frame_security::securityhelpers::{by_network_key, encrypt_part, full_counter};
-
-// A frame was decrypted where it lies, or it was refused and no byte of it changed.
-#[derive(Clone, Copy)]
-pub enum Opening {
-    Opened,
-    Refused(Refusal),
-}
-
-// What an opening answers at a reading of another type than it needs.
-pub(crate) fn no_opening(reading: Reading) -> Opening
-    ensures { result ≡ Opening.Refused (other_refusal_of reading) }
-{
-    Opening::Refused(other_refusal(reading))
-}
 
 // Where the payload begins, or the MIC where there is none.
 fn header_end(fields: DataFrame) -> usize
@@ -40,7 +23,12 @@ fn header_end(fields: DataFrame) -> usize
 }
 
 // 4.3.3: the key of a frame that was read as data.
-fn key_of(frame: &[u8], fields: DataFrame, nwk_skey: MaybeKey, app_skey: MaybeKey) -> MaybeKey
+fn key_of(
+    frame: &[u8],
+    fields: DataFrame,
+    nwk_skey: Option<[u8; 16]>,
+    app_skey: Option<[u8; 16]>,
+) -> Option<[u8; 16]>
     requires { IsData frame.now × (fields ≡ data_of frame.now) }
     ensures { result ≡ frame_key frame.now nwk_skey app_skey }
 {
@@ -65,35 +53,32 @@ fn decrypt_payload(frame: &mut [u8], fields: DataFrame, key: [u8; 16], counter: 
     encrypt_part(key, frame, whole, start, mic);
 }
 
-fn decrypt_under(frame: &mut [u8], fields: DataFrame, key: MaybeKey, counter: u32) -> Opening
+fn decrypt_under(
+    frame: &mut [u8],
+    fields: DataFrame,
+    key: Option<[u8; 16]>,
+    counter: u32,
+) -> Result<(), Refusal>
     requires { IsData frame.old × (fields ≡ data_of frame.old) }
     ensures { outcome result frame.new ≡ opened_under key counter frame.old }
 {
-    let given = key.given;
-    if given {
-        let bytes = key.key;
-        decrypt_payload(frame, fields, bytes, counter);
-        return Opening::Opened;
-    }
-    Opening::Refused(Refusal {
-        number: INVALID_KEY,
-        place: 0,
-    })
+    let Some(given) = key else {
+        return Err(Refusal::of(INVALID_KEY));
+    };
+    decrypt_payload(frame, fields, given, counter);
+    Ok(())
 }
 
 // Decrypts a data frame where it lies, with no test of its MIC. Of `counter` the high half counts.
 pub fn decrypt_data(
     frame: &mut [u8],
-    nwk_skey: MaybeKey,
-    app_skey: MaybeKey,
+    nwk_skey: Option<[u8; 16]>,
+    app_skey: Option<[u8; 16]>,
     counter: u32,
-) -> Opening
+) -> Result<(), Refusal>
     ensures { outcome result frame.new ≡ data_opened nwk_skey app_skey counter frame.old }
 {
-    let reading = read(frame);
-    let Reading::Data(fields) = reading else {
-        return no_opening(reading);
-    };
+    let fields = read_as_data(frame)?;
     let key = key_of(frame, fields, nwk_skey, app_skey);
     decrypt_under(frame, fields, key, counter)
 }

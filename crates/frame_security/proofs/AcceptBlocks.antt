@@ -1,8 +1,8 @@
 -- Block by block: one more block, done where it lies; lengths; and that one function block by block undoes another which
 -- it undoes on each block. So decrypting a join-accept gives back what was encrypted; the length and byte 0 stay.
 -- Assumes nothing.
+use denote.Ref.{Bor}
 use mathlib.Core.Path.{◌≡◌, refl, sym, ap, ap₂, ◌∙◌}
-use mathlib.Core.Bool.{Bool, true, false}
 use mathlib.Core.List.{List, [], ◌∷◌, ◌++◌}
 use Prim.Native.Nat.{ℕ, zero, suc, ◌+◌, ◌-◌, ◌*◌, ◌/◌, ◌≤◌, ◌<◌}
 use native.Mathlib.Nat.{not-suc-le-zero}
@@ -11,12 +11,14 @@ use native.Mathlib.Omega.{arith}
 use lib.ListN.{length, take, drop, set, length-append, length-drop, take-append-drop}
 use lib.Seq.{sets, sets-eq, length-take-le, take_at, drop_at, drop-append-add}
 use Rattle.base.specs.Bytes.{at, part, AreBytes}
+use Rattle.base.specs.Storing.{run_at}
 use Rattle.base.proofs.Parts.{bytes_take, bytes_drop}
+use Rattle.base.proofs.StoringLaws.{run_inside}
 use Rattle.aes.specs.KeyExpansion.{key_expansion_of}
 use Rattle.aes.specs.Fips197.{cipher, inv_cipher}
 use Rattle.aes.proofs.ExpansionLaws.{schedule_byte}
 use Rattle.aes.proofs.CipherLaws.{cipher_long, inv_cipher_long, cipher-inv_cipher}
-use Rattle.frame_security.specs.JoinAcceptCipher.{each_block_of, either_way, from_one, accept_encrypted, accept_decrypted}
+use Rattle.frame_security.specs.JoinAcceptCipher.{Computes, each_block_of, from_one, accept_encrypted, accept_decrypted}
 
 -- ---- stores past a first string
 
@@ -142,15 +144,21 @@ pub start : (f : List ℕ → List ℕ) (s : List ℕ) → Blocking f s s 0
 unfolding each_block_of
 start f s = record { upto = omega arith; long = refl; so_far = refl }
 
-pub step : {f : List ℕ → List ℕ} {s r : List ℕ} {k : ℕ} (e : List ℕ) → ((t : List ℕ) → length (f t) ≡ 16) → Blocking f s r k
-    → k < length s / 16 → e ≡ sets r (k * 16) (f (part (k * 16) 16 r)) → Blocking f s e (k + 1)
-step {f} {s} {r} {k} e long b h q =
-    let room : k * 16 + 16 ≤ length s = omega arith in
+-- the next block b was taken out, and what the step gives for it stored in its place
+pub step : {gives : Bor (List ℕ) → List ℕ → List ℕ → Type 0} {g : List ℕ → List ℕ → List ℕ} {s r b d e : List ℕ} {k : ℕ} (ks : Bor (List ℕ))
+    → Computes gives g → Blocking (g ks.now) s r k → k < length s / 16 → b ≡ run_at 16 r (k * 16) → gives ks b d
+    → e ≡ sets r (k * 16) d → Blocking (g ks.now) s e (k + 1)
+step {gives} {g} {s} {r} {b} {d} {e} {k} ks h w l hb hd q =
+    let f = g ks.now in
+    let room : k * 16 + 16 ≤ length r = omega (arith, w.long) in
     let so : e ≡ each_block_of f (k + 1) s =
-    q ∙ ap (λ (t : List ℕ). sets t (k * 16) (f (part (k * 16) 16 t))) b.so_far ∙ blocks_step f long k s room in
+    q
+    ∙ ap (sets r (k * 16)) (h.same ks b d hd ∙ ap f (hb ∙ run_inside 16 r (k * 16) room))
+    ∙ ap (λ (t : List ℕ). sets t (k * 16) (f (part (k * 16) 16 t))) w.so_far
+    ∙ blocks_step f (h.long ks.now) k s (omega arith) in
     record {
       upto = omega arith;
-      long = ap length so ∙ blocks_long f long (k + 1) s (omega arith);
+      long = ap length so ∙ blocks_long f (h.long ks.now) (k + 1) s (omega arith);
       so_far = so;
     }
 
@@ -158,18 +166,3 @@ pub done : {f : List ℕ → List ℕ} {s r : List ℕ} {k : ℕ} → Blocking f
 done {f} {s} {r} {k} b h =
     let e : k ≡ length s / 16 = omega (arith, b.upto) in
     b.so_far ∙ ap (λ (n : ℕ). each_block_of f n s) e
-
--- a block either way has sixteen bytes
-pub either_long : (inverse : Bool) (ks s : List ℕ) → length (either_way inverse ks s) ≡ 16
-unfolding either_way
-either_long true ks s = inv_cipher_long ks s
-either_long false ks s = cipher_long ks s
-
--- which way, once it is known
-pub deciphers : (ks : List ℕ) (n : ℕ) (s : List ℕ) → each_block_of (either_way true ks) n s ≡ each_block_of (inv_cipher ks) n s
-unfolding either_way
-deciphers ks n s = refl
-
-pub enciphers : (ks : List ℕ) (n : ℕ) (s : List ℕ) → each_block_of (either_way false ks) n s ≡ each_block_of (cipher ks) n s
-unfolding either_way
-enciphers ks n s = refl

@@ -1,10 +1,10 @@
 -- Laws on the helper blocks, the key stream and encrypted payloads: lengths, that what encrypts also decrypts,
 -- what one changed byte does, and that only a frame's first five bytes count.
 -- Assumes nothing.
-use mathlib.Core.Path.{◌≡◌, refl, sym, ap, ap₂, ◌∙◌}
+use mathlib.Core.Path.{◌≡◌, refl, sym, ap, ap₂, ◌∙◌, subst}
 use mathlib.Core.Bool.{true, false}
 use mathlib.Core.List.{List, [], ◌∷◌, ◌++◌, append-nil}
-use Prim.Native.Nat.{ℕ, ◌+◌, ◌-◌, ◌/◌, ◌%◌, ◌<◌, ◌≤◌}
+use Prim.Native.Nat.{ℕ, ◌+◌, ◌-◌, ◌*◌, ◌/◌, ◌%◌, ◌<◌, ◌≤◌, min}
 use native.Mathlib.Nat.{not-suc-le-zero, le_of_eq}
 use native.Mathlib.Omega.{arith}
 use lib.ListN.{length, take, drop, set, length-append, length-take, length-drop}
@@ -13,7 +13,7 @@ use borrow.Author.Tests.{le-leb, lt-leb, ne_eqb}
 use Rattle.base.specs.Bytes.{pick, at, part, ◌⊕◌, AreBytes}
 use Rattle.base.specs.Mask.{masked}
 use Rattle.base.proofs.Cases.{by_order}
-use Rattle.base.proofs.Mask.{masked_long, masked-at, masked_same, masked_twice, masked-set}
+use Rattle.base.proofs.Mask.{Masking, step_part, masked_long, masked-at, masked_same, masked_twice, masked-set}
 use Rattle.base.proofs.Lent.{part_long, same_start, put_back, put_before, put_part, put_after, put_same}
 use Rattle.aes.specs.KeyExpansion.{key_expansion_of}
 use Rattle.aes.specs.Fips197.{cipher}
@@ -88,6 +88,19 @@ stream_at_block ks f counter i k hi hk =
     let place : (i + k) % 16 ≡ k = omega arith in
     ap₂ (λ (n m : ℕ). at (cipher ks (helper_block_of 1 f counter ((n + 1) % 256))) m) block place
 
+-- block k of the key stream is laid on behind those before it, as far as the payload goes
+pub stream_turn : (ks f : List ℕ) (counter k : ℕ) {p r s t : List ℕ} {e : ℕ} → Masking p (stream_at ks f counter) r (min (k * 16) (length p))
+    → k * 16 < length p → e ≡ min (k * 16 + 16) (length p) → s ≡ stream_block_of ks f counter (k * 16)
+    → t ≡ masked (part (k * 16) (e - k * 16) r) (at s)
+    → Masking p (stream_at ks f counter) (take (k * 16) r ++ (t ++ drop (e - k * 16) (drop (k * 16) r))) (min ((k + 1) * 16) (length p))
+stream_turn ks f counter k {p} {r} {s} {t} {e} m h he hs ht =
+    let stream = stream_at ks f counter in
+    let here : min (k * 16) (length p) ≡ k * 16 = omega arith in
+    let there : e ≡ min ((k + 1) * 16) (length p) = omega arith in
+    subst (λ (n : ℕ). Masking p stream (take (k * 16) r ++ (t ++ drop (e - k * 16) (drop (k * 16) r))) n) there
+    (step_part e s (subst (λ (n : ℕ). Masking p stream r n) here m) (omega arith) (omega arith)
+    (λ j l. stream_at_block ks f counter (k * 16) j (omega arith) (omega arith) ∙ ap (λ (b : List ℕ). at b j) (sym hs)) ht)
+
 -- ---- the payload's key
 
 module _ {A : Type 0} (hdr : List ℕ) (n : ℕ) (nwk app : A) where
@@ -132,10 +145,10 @@ module _ (key f : List ℕ) (counter : ℕ) where
   crypted-set p j v h = masked-set p (stream_at (key_expansion_of key) f counter) j v h
 
   -- a payload of no byte is left as it is
-  pub crypted-none : (p : List ℕ) → length p ≡ 0 → p ≡ crypted key f counter p
+  pub crypted_none : (p : List ℕ) → length p ≡ 0 → p ≡ crypted key f counter p
   unfolding crypted masked
-  crypted-none [] h = refl
-  crypted-none (a ∷ p) h = absurd (not-suc-le-zero (le_of_eq h))
+  crypted_none [] h = refl
+  crypted_none (a ∷ p) h = absurd (not-suc-le-zero (le_of_eq h))
 
 -- encrypting a part leaves the frame's length
 pub crypted_part_long : (key f : List ℕ) (counter start end : ℕ) → start ≤ end → end ≤ length f
@@ -149,7 +162,7 @@ pub crypted_part-nothing : (key f : List ℕ) (counter start end : ℕ) → star
 unfolding crypted_part
 crypted_part-nothing key f counter start end e =
     let none : length (part start (end - start) f) ≡ 0 = length-take (end - start) (drop start f) ∙ omega arith in
-    ap (λ (l : List ℕ). take start f ++ l ++ drop end f) (sym (crypted-none key f counter (part start (end - start) f) none))
+    ap (λ (l : List ℕ). take start f ++ l ++ drop end f) (sym (crypted_none key f counter (part start (end - start) f) none))
     ∙ put_same start end f (omega arith)
 
 -- decrypting a part that lies past the first five bytes gives the frame back
@@ -186,9 +199,9 @@ unfolding crypted_in
 crypted_inside key f counter start end h inside = simp (le-leb start end h, le-leb end (length f) inside)
 
 -- where there is nothing between them, or they lie the other way round
-pub crypted-nothing : (key f : List ℕ) (counter start end : ℕ) → end ≤ start → f ≡ crypted_in key f counter start end
+pub crypted_nothing : (key f : List ℕ) (counter start end : ℕ) → end ≤ start → f ≡ crypted_in key f counter start end
 unfolding crypted_in
-crypted-nothing key f counter start end h =
+crypted_nothing key f counter start end h =
     by_order start end
     (λ l.
     let same : start ≡ end = omega arith in

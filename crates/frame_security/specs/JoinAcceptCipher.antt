@@ -1,8 +1,8 @@
 -- A join-accept's encryption, from LoRaWAN 1.0 section 6.2.5: the network applies AES decryption to each block of sixteen bytes
 -- from byte 1, so that a device needs AES encryption alone.
 -- Assumes nothing.
-use Rattle.std.specs.Prelude.{Bool, List, ◌++◌, ℕ, zero, suc, ◌/◌, length, take, drop}
-use Rattle.base.specs.Bytes.{pick}
+use denote.Ref.{Bor}
+use Rattle.std.specs.Prelude.{◌≡◌, List, ◌++◌, ℕ, zero, suc, ◌/◌, length, take, drop}
 use Rattle.aes.specs.KeyExpansion.{key_expansion_of}
 use Rattle.aes.specs.Fips197.{cipher, inv_cipher}
 
@@ -11,9 +11,10 @@ unfoldable pub each_block_of : (List ℕ → List ℕ) → ℕ → List ℕ → 
 each_block_of f zero s = s
 each_block_of f (suc n) s = f (take 16 s) ++ each_block_of f n (drop 16 s)
 
--- AES decryption, or encryption, of a block under a key schedule
-unfoldable pub either_way : Bool → List ℕ → List ℕ → List ℕ
-either_way inverse ks block = pick inverse (inv_cipher ks block) (cipher ks block)
+-- a step, of a key schedule and a block, computes f: what it gives, as `gives` says, is what f is there
+pub record Computes (gives : Bor (List ℕ) → List ℕ → List ℕ → Type 0) (f : List ℕ → List ℕ → List ℕ) : Type 0 where
+  pub same : (w : Bor (List ℕ)) (b r : List ℕ) → gives w b r → r ≡ f w.now b
+  pub long : (w b : List ℕ) → length (f w b) ≡ 16
 
 -- f on each whole block of sixteen bytes from byte 1
 abbrev pub from_one : (List ℕ → List ℕ) → List ℕ → List ℕ

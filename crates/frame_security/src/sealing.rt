@@ -12,11 +12,13 @@ fn payload_key(header: &[u8], count: usize, nwk_skey: [u8; 16], app_skey: [u8; 1
     ensures { result ≡ payload_key_of header.now count nwk_skey app_skey }
 {
     if by_network_key(header, count) {
-        return nwk_skey;
+        nwk_skey
+    } else {
+        app_skey
     }
-    app_skey
 }
 
+#[tactic(auto, using(crate::proofs::SealingLaws::sealed_in_place, crate::proofs::SecurityLaws::crypted_inside))]
 fn seal_inside(
     out: &mut [u8],
     start: usize,
@@ -38,6 +40,7 @@ fn seal_inside(
 
 // Encrypts the payload start..end of a clear data frame where it lies, and stores the MIC behind it. Nothing is written where
 // the header is shorter than eight bytes or there is no room.
+#[tactic(auto, using(crate::proofs::SealingLaws::seal_no_header, crate::proofs::SealingLaws::seal_unordered, crate::proofs::SealingLaws::seal_no_room, crate::proofs::SealingLaws::seal_inside))]
 pub fn seal(
     out: &mut [u8],
     start: usize,

@@ -1,7 +1,7 @@
 // What programs share that read frames from standard input: an input of any length, of which the start is kept, and records.
 #![tactic(auto)]
 
-ghost use Rattle.std.specs.Prelude.{◌≡◌, ◌≤◌, IfOk, length};
+ghost use Rattle.std.specs.Prelude.{◌≡◌, ◌+◌, ◌*◌, ◌≤◌, IfOk, length, min, slice_index};
 ghost use Rattle.std.specs.Counts.{IsPrefixLen};
 
 use std::io;
@@ -23,6 +23,7 @@ pub fn read_full<R: Read>(reader: &mut R, room: &mut [u8]) -> io::Result<usize>
     ensures ok { IfOk result (λ n. IsPrefixLen n room.new) }
     ensures room_kept { length room.new ≡ length room.old }
 {
+    // std's `read_exact` does not say how much came of an input that ends early.
     let mut done = 0;
     while done < room.len() {
         let n = reader.read(&mut room[done..])?;
@@ -34,38 +35,57 @@ pub fn read_full<R: Read>(reader: &mut R, room: &mut [u8]) -> io::Result<usize>
     Ok(done)
 }
 
-// The length of the input whose first `start` bytes stand in `room`. An input that fills it is too long for its reader, whatever
-// it holds: so the bytes behind take the place of those ahead, and are only counted.
-fn whole_length<R: Read>(reader: &mut R, start: usize, room: &mut [u8]) -> io::Result<usize> {
-    // A loop has to end, and nothing says that an input does: so it is counted up to a number that no input reaches.
-    let limit = usize::MAX - room.len();
-    let mut count = start;
-    let mut last = start;
-    while count < limit && 0 < last && last == room.len() {
-        last = read_full(reader, room)?;
-        count += last;
-    }
-    Ok(count)
-}
-
-// Reads the input to its end. Its start stands in `room`, if all of it is shorter than that. Every error is the reader's: part of
-// the input is read then, and `room` holds some of it.
+// Reads the input to its end. Its start stands in `room`, as much of it as there is room for. Every error is the reader's: part of
+// the input is read then, and `room` holds some of it. (With a slice of `room` in the result no clause could name `room.new`.)
 pub fn read_input<R: Read>(reader: &mut R, room: &mut [u8]) -> io::Result<Input>
     ensures ok { IfOk result (λ input. IsPrefixLen input.start room.new) }
+    ensures held { IfOk result (λ input. input.start ≡ min input.count (length room.new)) }
     ensures room_kept { length room.new ≡ length room.old }
 {
     let start = read_full(reader, room)?;
-    let count = whole_length(reader, start, room)?;
+    let mut count = start;
+    if start == room.len() {
+        let behind = io::copy(reader, &mut io::sink())?;
+        count = count.saturating_add(behind as usize);
+    }
     Ok(Input { start, count })
 }
 
 // Room for frames that are too long, too. A longer record counts as so many bytes, and the next one begins after them.
 pub const RECORD_ROOM: usize = 512;
 
-// The length of a record, of the two bytes that stand ahead of it, low byte first.
-pub fn record_length(low: u8, high: u8) -> usize
-    ensures { result ≤ 512 }
+// The length of a record, of the two bytes that stand ahead of it, low byte first: held to the room for it.
+pub fn record_length(bytes: [u8; 2], room: usize) -> usize
+    ensures { result ≡ min (slice_index bytes 0 + slice_index bytes 1 * 256) room }
 {
-    let n = (low as usize) + (high as usize) * 256;
-    if n < RECORD_ROOM { n } else { RECORD_ROOM }
+    usize::from(u16::from_le_bytes(bytes)).min(room)
+}
+
+// Reads records and hands each to `answer`, behind its head, until the input ends or an answer fails, and says how many were
+// answered. Ahead of a record stand its length, in two bytes, and a head of as many bytes as `head` has. Each record is read into
+// `room`; one that is longer counts as so many bytes, and the next one begins after them. The last record may be cut short, but not
+// its length or its head: then there is none. Every error is the reader's.
+pub fn each_record<R: Read, F: FnMut(&[u8], &[u8]) -> io::Result<()>>(
+    reader: &mut R,
+    head: &mut [u8],
+    room: &mut [u8],
+    mut answer: F,
+) -> io::Result<u64>
+    requires { F.IsAlwaysCallable answer }
+    ensures head_kept { length head.new ≡ length head.old }
+    ensures room_kept { length room.new ≡ length room.old }
+{
+    // A loop has to end, and nothing says that an input does: so the records are counted, up to a number that no run reaches.
+    for answered in 0..u64::MAX {
+        let mut length = [0u8; 2];
+        if read_full(reader, &mut length)? < 2 || read_full(reader, head)? < head.len() {
+            return Ok(answered);
+        }
+        let limit = record_length(length, room.len());
+        let n = read_full(reader, &mut room[..limit])?;
+        if answer(head, &room[..n]).is_err() {
+            return Ok(answered);
+        }
+    }
+    Ok(u64::MAX)
 }

@@ -1,6 +1,7 @@
 -- A command and its bytes: written it reads back, read it is written back where the reserved bits were 0, and both take the same
 -- bytes.
 -- Assumes nothing.
+use Rattle.std.specs.Prelude.{Err, None, Ok, Some}
 use mathlib.Core.Path.{◌≡◌, sym, ap, ap₂, ◌∙◌, subst}
 use mathlib.Core.Bool.{Bool, true}
 use mathlib.Core.List.{List, ◌∷◌, ◌++◌}
@@ -16,10 +17,8 @@ use Rattle.base.proofs.Tab.{at-tab}
 use Rattle.frame.specs.declared.refusals.Refusal.{Refusal}
 use Rattle.frame.specs.Refusals.{refusal}
 use Rattle.mac_commands.specs.Layout.{fits, field_at, fields_of, number_of, count_in_row, Clear, row, row_of, known, size_of, low_first, bytes_of}
-use Rattle.mac_commands.specs.Commands.{command_of, step_at, row_at, values_of, fits_all, up_of, id_of, row_bytes, bytes_as}
+use Rattle.mac_commands.specs.Commands.{Step, raw_found, step_of, command_of, step_at, row_at, values_of, fits_all, up_of, id_of, row_bytes, bytes_as}
 use Rattle.mac_commands.specs.declared.maccommands.Command.{Command}
-use Rattle.mac_commands.specs.declared.maccommands.Step.{Step}
-use Rattle.mac_commands.specs.declared.maccommands.Step.TheVariants.{Found, End, Refused}
 use Rattle.mac_commands.proofs.LayoutLaws.{named, named_below, number_back, number-below, low_bytes, bytes_low, bytes_long}
 use Rattle.mac_commands.proofs.TableLaws.{row_distinct, row_within, row_whole, row_below, count_most, fields_fit}
 use Rattle.mac_commands.proofs.CommandLaws.{shaped, row_back, values_read, fields_back, row_of_lem, id_from, id_upto, id_of_lem}
@@ -42,7 +41,7 @@ unfolding bytes_as
 bytes_count c = row_long (row_at c) (number_of (row (row_at c)) (values_of c))
 
 pub reads_back : (c : Command) (s t : List ℕ) (i : ℕ) → fits_all c ≡ true → drop i s ≡ bytes_as c ++ t
-    → step_at (up_of (row_at c)) s i ≡ Found c (i + length (bytes_as c))
+    → step_at (up_of (row_at c)) s i ≡ Ok (Some (c, i + length (bytes_as c)))
 unfolding bytes_as row_bytes
 reads_back c s t i h e =
     let v : ℕ = number_of (row (row_at c)) (values_of c) in
@@ -64,9 +63,9 @@ reads_back c s t i h e =
     (is_known (at s i) (omega (arith, id_from (row_at c))) (omega (arith, id_upto (row_at c))))
     (omega (arith, bytes_count c, ap size_of its))
     ∙ ap
-    (λ (r : ℕ). Found (command_of r (fields_of (row r) (low_first (part (i + 1) (size_of r) s)))) (i + 1 + size_of r))
+    (λ (r : ℕ). step_of (raw_found r (low_first (part (i + 1) (size_of r) s)) (i + 1 + size_of r)))
     its
-    ∙ ap₂ Found (ap (command_of (row_at c)) same ∙ (shaped c).back h) next
+    ∙ ap₂ (λ (c : Command) (n : ℕ). Ok (Some (c, n))) (ap (command_of (row_at c)) same ∙ (shaped c).back h) next
 
 -- ---- read, then written
 
@@ -81,13 +80,13 @@ pub record ReadAs (up : Bool) (s : List ℕ) (i : ℕ) (c : Command) (n : ℕ) :
   pub command : c ≡ command_of (row_of up (at s i)) (fields_of (row (row_of up (at s i))) (number_behind up s i))
   pub next : n ≡ i + 1 + size_of (row_of up (at s i))
 
-no_end : {A : Type 0} (x : Step) (c : Command) (n : ℕ) → x ≡ Found c n → x ≡ End → A
+no_end : {A : Type 0} (x : Step) (c : Command) (n : ℕ) → x ≡ Ok (Some (c, n)) → x ≡ Ok None → A
 no_end x c n e f = let z : ◌≡◌ {A = ℕ} 0 1 = cc in let no : ⊥ = omega arith in absurd no
 
-no_refusal : {A : Type 0} (x : Step) (c : Command) (n : ℕ) (r : Refusal) → x ≡ Found c n → x ≡ Refused r → A
+no_refusal : {A : Type 0} (x : Step) (c : Command) (n : ℕ) (r : Refusal) → x ≡ Ok (Some (c, n)) → x ≡ Err r → A
 no_refusal x c n r e f = let z : ◌≡◌ {A = ℕ} 0 1 = cc in let no : ⊥ = omega arith in absurd no
 
-pub read_as : (up : Bool) (s : List ℕ) (i : ℕ) (c : Command) (n : ℕ) → step_at up s i ≡ Found c n → ReadAs up s i c n
+pub read_as : (up : Bool) (s : List ℕ) (i : ℕ) (c : Command) (n : ℕ) → step_at up s i ≡ Ok (Some (c, n)) → ReadAs up s i c n
 read_as up s i c n e =
     by_order (length s) i (λ h. no_end (step_at up s i) c n e (ended up s i h))
     (λ h.
@@ -100,10 +99,11 @@ read_as up s i c n e =
   where
     facts : known (at s i) ≡ true → i + 1 + size_of (row_of up (at s i)) ≤ length s
         → step_at up s i
-        ≡ Found (command_of (row_of up (at s i)) (fields_of (row (row_of up (at s i))) (number_behind up s i)))
-        (i + 1 + size_of (row_of up (at s i)))
+        ≡ step_of (raw_found (row_of up (at s i)) (number_behind up s i) (i + 1 + size_of (row_of up (at s i))))
         → ReadAs up s i c n
-    facts k m f = record { in_family = k; room = m; command = cc; next = cc }
+    facts k m f =
+        let found : (c, n) ≡ (command_of (row_of up (at s i)) (fields_of (row (row_of up (at s i))) (number_behind up s i)), i + 1 + size_of (row_of up (at s i))) = cc in
+        record { in_family = k; room = m; command = ap (λ (p : Command × ℕ). p.0) found; next = ap (λ (p : Command × ℕ). p.1) found }
 
 module _ {up : Bool} {s : List ℕ} {i : ℕ} {c : Command} {n : ℕ} (a : ReadAs up s i c n) where
   below : row_of up (at s i) < 18

@@ -1,5 +1,6 @@
 -- One step of reading, by the facts on which it turns.
 -- Assumes nothing.
+use Rattle.std.specs.Prelude.{Err, None, Ok, Some}
 use mathlib.Core.Path.{◌≡◌, sym, ap, ◌∙◌, subst}
 use mathlib.Core.Bool.{Bool, true, false}
 use mathlib.Core.List.{List}
@@ -12,11 +13,9 @@ use Rattle.base.specs.Bytes.{at, part}
 use Rattle.base.proofs.Cases.{by_bool, by_order}
 use Rattle.frame.specs.declared.refusals.Refusal.{Refusal}
 use Rattle.frame.specs.Refusals.{refusal}
-use Rattle.mac_commands.specs.Layout.{fields_of, row, row_of, known, size_of, low_first}
-use Rattle.mac_commands.specs.Commands.{command_of, raw_at, raw_step_at, step_of, step_at}
-use Rattle.mac_commands.specs.declared.maccommands.Step.TheVariants.{Found, End, Refused}
-use Rattle.mac_commands.specs.declared.maccommands.RawStep.{RawStep}
-use Rattle.mac_commands.specs.declared.maccommands.RawStep.TheVariants.{Found as RawFound, End as RawEnd, Refused as RawRefused}
+use Rattle.mac_commands.specs.Layout.{row_of, known, size_of, low_first}
+use Rattle.mac_commands.specs.Commands.{RawStep, raw_found, raw_at, raw_step_at, step_of, step_at}
+use Rattle.mac_commands.specs.declared.maccommands.RawCommand.{RawCommand}
 use Rattle.mac_commands.proofs.LayoutLaws.{both_1, both_2}
 use Rattle.mac_commands.proofs.TableLaws.{row_below}
 
@@ -34,31 +33,31 @@ is_known id g l = simp (le-leb 2 id g, le-leb id 10 l)
 -- ---- a step
 
 abbrev row_in : RawStep → ℕ
-row_in (RawFound r v n) = r
-row_in RawEnd = 0
-row_in (RawRefused e) = 0
+row_in (Ok (Some raw)) = raw.row
+row_in (Ok None) = 0
+row_in (Err e) = 0
 
-unfound : {A : Type 0} {x : RawStep} {e : Refusal} {r v n : ℕ} → x ≡ RawRefused e → x ≡ RawFound r v n → A
+unfound : {A : Type 0} {x : RawStep} {e : Refusal} {raw : RawCommand} → x ≡ Err e → x ≡ Ok (Some raw) → A
 unfound p q = let z : ◌≡◌ {A = ℕ} 0 1 = cc in let no : ⊥ = omega arith in absurd no
 
-unended : {A : Type 0} {x : RawStep} {r v n : ℕ} → x ≡ RawEnd → x ≡ RawFound r v n → A
+unended : {A : Type 0} {x : RawStep} {raw : RawCommand} → x ≡ Ok None → x ≡ Ok (Some raw) → A
 unended p q = let z : ◌≡◌ {A = ℕ} 0 1 = cc in let no : ⊥ = omega arith in absurd no
 
-pub raw_cut : (r : ℕ) (s : List ℕ) (i : ℕ) → length s < i + 1 + size_of r → raw_at r s i ≡ RawRefused (refusal 17 i)
+pub raw_cut : (r : ℕ) (s : List ℕ) (i : ℕ) → length s < i + 1 + size_of r → raw_at r s i ≡ Err (refusal 17 i)
 unfolding raw_at
 raw_cut r s i h = simp (lt-leb (i + 1 + size_of r) (length s) h)
 
 pub raw_whole : (r : ℕ) (s : List ℕ) (i : ℕ) → i + 1 + size_of r ≤ length s
-    → raw_at r s i ≡ RawFound r (low_first (part (i + 1) (size_of r) s)) (i + 1 + size_of r)
+    → raw_at r s i ≡ raw_found r (low_first (part (i + 1) (size_of r) s)) (i + 1 + size_of r)
 unfolding raw_at
 raw_whole r s i h = simp (le-leb (i + 1 + size_of r) (length s) h)
 
-pub raw_ended : (up : Bool) (s : List ℕ) (i : ℕ) → length s ≤ i → raw_step_at up s i ≡ RawEnd
+pub raw_ended : (up : Bool) (s : List ℕ) (i : ℕ) → length s ≤ i → raw_step_at up s i ≡ Ok None
 unfolding raw_step_at
 raw_ended up s i h = simp (le-ltb i (length s) h)
 
 pub raw_unknown : (up : Bool) (s : List ℕ) (i : ℕ) → i < length s → known (at s i) ≡ false
-    → raw_step_at up s i ≡ RawRefused (refusal 16 i)
+    → raw_step_at up s i ≡ Err (refusal 16 i)
 unfolding raw_step_at
 raw_unknown up s i h k = simp (lt-ltb i (length s) h, k)
 
@@ -68,16 +67,16 @@ unfolding raw_step_at
 raw_known up s i h k = simp (lt-ltb i (length s) h, k)
 
 -- a row that was found is one of the eighteen
-raw_row_in : (up : Bool) (s : List ℕ) (i : ℕ) {r v n : ℕ} → i < length s → known (at s i) ≡ true
-    → raw_at (row_of up (at s i)) s i ≡ RawFound r v n → r < 18
-raw_row_in up s i {r} h k e =
+raw_row_in : (up : Bool) (s : List ℕ) (i : ℕ) {raw : RawCommand} → i < length s → known (at s i) ≡ true
+    → raw_at (row_of up (at s i)) s i ≡ Ok (Some raw) → raw.row < 18
+raw_row_in up s i {raw} h k e =
     by_order (i + 1 + size_of (row_of up (at s i))) (length s)
     (λ l.
-    let its : row_of up (at s i) ≡ r = ap row_in (sym (raw_whole (row_of up (at s i)) s i l) ∙ e) in
+    let its : row_of up (at s i) ≡ raw.row = ap row_in (sym (raw_whole (row_of up (at s i)) s i l) ∙ e) in
     subst (λ (m : ℕ). m < 18) its (row_below up (at s i) (known_upto (at s i) k)))
     (λ l. unfound (raw_cut (row_of up (at s i)) s i l) e)
 
-pub raw_row : (up : Bool) (s : List ℕ) (i : ℕ) {r v n : ℕ} → raw_step_at up s i ≡ RawFound r v n → r < 18
+pub raw_row : (up : Bool) (s : List ℕ) (i : ℕ) {raw : RawCommand} → raw_step_at up s i ≡ Ok (Some raw) → raw.row < 18
 raw_row up s i e =
     by_order (length s) i (λ h. unended (raw_ended up s i h) e)
     (λ h.
@@ -86,23 +85,22 @@ raw_row up s i e =
 
 -- ---- the same of the command
 
-pub ended : (up : Bool) (s : List ℕ) (i : ℕ) → length s ≤ i → step_at up s i ≡ End
+pub ended : (up : Bool) (s : List ℕ) (i : ℕ) → length s ≤ i → step_at up s i ≡ Ok None
 unfolding step_at
 ended up s i h = ap step_of (raw_ended up s i h)
 
-pub unknown : (up : Bool) (s : List ℕ) (i : ℕ) → i < length s → known (at s i) ≡ false → step_at up s i ≡ Refused (refusal 16 i)
+pub unknown : (up : Bool) (s : List ℕ) (i : ℕ) → i < length s → known (at s i) ≡ false → step_at up s i ≡ Err (refusal 16 i)
 unfolding step_at
 unknown up s i h k = ap step_of (raw_unknown up s i h k)
 
 pub cut : (up : Bool) (s : List ℕ) (i : ℕ) → i < length s → known (at s i) ≡ true
-    → length s < i + 1 + size_of (row_of up (at s i)) → step_at up s i ≡ Refused (refusal 17 i)
+    → length s < i + 1 + size_of (row_of up (at s i)) → step_at up s i ≡ Err (refusal 17 i)
 unfolding step_at
 cut up s i h k l = ap step_of (raw_known up s i h k ∙ raw_cut (row_of up (at s i)) s i l)
 
 pub whole : (up : Bool) (s : List ℕ) (i : ℕ) → i < length s → known (at s i) ≡ true
     → i + 1 + size_of (row_of up (at s i)) ≤ length s
     → step_at up s i
-    ≡ Found (command_of (row_of up (at s i)) (fields_of (row (row_of up (at s i))) (low_first (part (i + 1) (size_of (row_of up (at s i))) s))))
-    (i + 1 + size_of (row_of up (at s i)))
+    ≡ step_of (raw_found (row_of up (at s i)) (low_first (part (i + 1) (size_of (row_of up (at s i))) s)) (i + 1 + size_of (row_of up (at s i))))
 unfolding step_at
 whole up s i h k l = ap step_of (raw_known up s i h k ∙ raw_whole (row_of up (at s i)) s i l)

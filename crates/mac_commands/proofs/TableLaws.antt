@@ -7,15 +7,15 @@ use mathlib.Core.List.{List, [], ◌∷◌, ◌++◌}
 use Prim.Native.Nat.{ℕ, zero, suc, ◌+◌, ◌*◌, ◌/◌, ◌%◌, ◌^◌, ◌≤◌, ◌<◌}
 use native.Mathlib.Nat.{not-suc-le-zero, mod-lt}
 use native.Mathlib.Omega.{arith}
-use lib.ListN.{get_or-eq_default}
+use lib.ListN.{length, get_or, get_or-eq_default}
 use lib.Pow.{pow_pos}
-use lib.Dec.{T, ltb, eqb, ltb→lt}
-use borrow.Author.Tests.{lt-ltb, eqb-true}
+use lib.Dec.{T, ltb, ltb→lt}
+use borrow.Author.Tests.{lt-ltb}
 use Rattle.base.specs.Bytes.{pick, at}
 use Rattle.base.proofs.Tested.{below, passes, bounded, agree, last_or_less}
 use Rattle.base.proofs.Tab.{at-tab}
 use Rattle.mac_commands.specs.Layout.{Piece, bits_of, count_in_row, place_in_row, width_at, field_at, fields_of, fits, number_of, downs, ups, row, row_of, size_of}
-use Rattle.mac_commands.specs.Table.{layout_number, table_row_of}
+use Rattle.mac_commands.specs.Table.{fields_from, field_list}
 use Rattle.mac_commands.proofs.LayoutLaws.{named, named_below, distinct, within, fits_each}
 
 -- ---- eighteen rows, each with five places for fields
@@ -88,31 +88,26 @@ no_fields r v h =
     let z : v / 1 % 1 ≡ 0 = omega arith in
     ap (λ (ps : List Piece). fields_of ps v) (no_row r h) ∙ ap (λ (x : ℕ). x ∷ x ∷ x ∷ x ∷ x ∷ []) z
 
--- ---- a row as one number holds what its layout says
+-- ---- the fields of a layout as a list
 
-pub no_number : (r : ℕ) → 18 ≤ r → table_row_of r ≡ 0
-unfolding table_row_of place_in_row width_at count_in_row bits_of
-no_number r h = ap layout_number (no_row r h)
+field_long : (n k : ℕ) (ps : List Piece) → length (fields_from n k ps) ≡ n
+field_long zero k ps = refl
+field_long (suc n) k ps = ap suc (field_long n (suc k) ps)
 
-grid_agree : (f g : ℕ → ℕ → ℕ) → T (below 90 (λ j. eqb (f (j / 5) (j % 5)) (g (j / 5) (j % 5)))) → (r k : ℕ) → r < 18 → k < 5
-    → f r k ≡ g r k
-grid_agree f g t r k hr hk = eqb-true (f r k) (g r k) (passed _ (grid_passes (λ r k. eqb (f r k) (g r k)) t r k hr hk))
+field_there : (n k : ℕ) (ps : List Piece) (j : ℕ) → j < n
+    → get_or (fields_from n k ps) j (0, 0) ≡ (place_in_row ps (k + j), width_at ps (k + j))
+field_there zero k ps j h = absurd (omega arith)
+field_there (suc n) k ps zero h = ap (λ (i : ℕ). (place_in_row ps i, width_at ps i)) (omega arith)
+field_there (suc n) k ps (suc j) h =
+    field_there n (suc k) ps j (omega arith) ∙ ap (λ (i : ℕ). (place_in_row ps i, width_at ps i)) (omega arith)
 
-pub place_in : (r k : ℕ) → r < 18 → k < 5 → table_row_of r / 2 ^ (11 * k) % 64 ≡ place_in_row (row r) k
-unfolding row downs ups count_in_row place_in_row width_at bits_of size_of table_row_of
-place_in = grid_agree (λ r k. table_row_of r / 2 ^ (11 * k) % 64) (λ r k. place_in_row (row r) k) tt
+pub field_count : (ps : List Piece) → length (field_list ps) ≡ count_in_row ps
+field_count ps = field_long (count_in_row ps) 0 ps
 
-pub width_in : (r k : ℕ) → r < 18 → k < 5 → table_row_of r / 2 ^ (11 * k + 6) % 32 ≡ width_at (row r) k
-unfolding row downs ups count_in_row place_in_row width_at bits_of size_of table_row_of
-width_in = grid_agree (λ r k. table_row_of r / 2 ^ (11 * k + 6) % 32) (λ r k. width_at (row r) k) tt
-
-pub count_in : (r : ℕ) → r < 18 → table_row_of r / 2 ^ 55 % 8 ≡ count_in_row (row r)
-unfolding row downs ups count_in_row place_in_row width_at bits_of size_of table_row_of
-count_in = agree 18 (λ r. table_row_of r / 2 ^ 55 % 8) (λ r. count_in_row (row r)) tt
-
-pub size_in : (r : ℕ) → r < 18 → table_row_of r / 2 ^ 58 % 8 ≡ size_of r
-unfolding row downs ups count_in_row place_in_row width_at bits_of size_of table_row_of
-size_in = agree 18 (λ r. table_row_of r / 2 ^ 58 % 8) size_of tt
+pub field_listed : (ps : List Piece) (k : ℕ) → k < count_in_row ps
+    → get_or (field_list ps) k (0, 0) ≡ (place_in_row ps k, width_at ps k)
+field_listed ps k h =
+    field_there (count_in_row ps) 0 ps k h ∙ ap (λ (i : ℕ). (place_in_row ps i, width_at ps i)) (omega arith)
 
 -- ---- sizes, places, widths
 

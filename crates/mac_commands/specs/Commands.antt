@@ -1,23 +1,16 @@
 -- A command as a row of the table and its values, and back; one step of reading and the writing of one command, by the table
 -- (LoRaWAN 1.0.2, section 5; docs/RULES.md, MAC commands).
 -- Assumes nothing.
-use Rattle.std.specs.Prelude.{List, [], ◌∷◌, Bool, ℕ, ◌+◌, ◌-◌, ◌%◌, ltb, leb, ℤ, pos, negsuc, length, get_or}
+use Rattle.std.specs.Prelude.{List, [], ◌∷◌, Bool, ℕ, ◌+◌, ◌-◌, ◌%◌, ltb, leb, ℤ, pos, negsuc, length, get_or, Option, Some, None, Result, Ok, Err}
 use Rattle.std.proofs.lemmas.List.Edits.{sets}
 use Rattle.base.specs.Bytes.{pick, at, part}
+use Rattle.frame.specs.declared.refusals.Refusal.{Refusal}
 use Rattle.frame.specs.Refusals.{refusal, refused}
 use Rattle.mac_commands.specs.Layout.{fits, fields_of, number_of, row, row_of, known, size_of, bytes_of, low_first}
 use Rattle.mac_commands.specs.declared.maccommands.Command.{Command}
 use Rattle.mac_commands.specs.declared.maccommands.Command.TheVariants.{LinkCheckAns, LinkADRReq, DutyCycleReq, RXParamSetupReq, DevStatusReq, NewChannelReq, RXTimingSetupReq, TxParamSetupReq, DlChannelReq, LinkCheckReq, LinkADRAns, DutyCycleAns, RXParamSetupAns, DevStatusAns, NewChannelAns, RXTimingSetupAns, TxParamSetupAns, DlChannelAns}
-use Rattle.mac_commands.specs.declared.maccommands.Step.{Step}
-use Rattle.mac_commands.specs.declared.maccommands.Step.TheVariants.{Found, End, Refused}
-use Rattle.mac_commands.specs.declared.maccommands.RawStep.{RawStep}
-use Rattle.mac_commands.specs.declared.maccommands.RawStep.TheVariants.{Found as RawFound, End as RawEnd, Refused as RawRefused}
+use Rattle.mac_commands.specs.declared.maccommands.RawCommand.{RawCommand}
 use Rattle.mac_commands.specs.declared.maccommandcreator.Fields.{Fields}
-use Rattle.mac_commands.specs.declared.maccommandcreator.Packed.{Packed}
-use Rattle.mac_commands.specs.declared.maccommandcreator.Packed.TheVariants.{Number, Unfit}
-use Rattle.mac_commands.specs.declared.maccommandcreator.Written.{Written}
-use Rattle.mac_commands.specs.declared.maccommandcreator.Written.TheVariants.{Upto}
-use Rattle.mac_commands.specs.declared.maccommandcreator.Written.TheVariants.{Refused as Unwritten}
 
 -- ---- the margin of DevStatusAns (5.5): six bits in two's complement, -32 to 31
 
@@ -92,22 +85,33 @@ id_of r = 2 + r % 9
 
 -- ---- reading the command at place i of s
 
+-- what is found there: the command with the place of the next one, nothing at the end of the list, or a refusal with its place
+abbrev pub Step : Type 0
+Step = Result (Option (Command × ℕ)) Refusal
+
+-- the same with the command as it stands in the bytes
+abbrev pub RawStep : Type 0
+RawStep = Result (Option RawCommand) Refusal
+
+abbrev pub raw_found : ℕ → ℕ → ℕ → RawStep
+raw_found r v n = Ok (Some (record { row = r; number = v; next = n }))
+
 -- of the row r: the number behind the identifier and the place past it, or 17
 unfoldable pub raw_at : ℕ → List ℕ → ℕ → RawStep
 raw_at r s i =
-    pick (leb (i + 1 + size_of r) (length s)) (RawFound r (low_first (part (i + 1) (size_of r) s)) (i + 1 + size_of r))
-    (RawRefused (refusal 17 i))
+    pick (leb (i + 1 + size_of r) (length s)) (raw_found r (low_first (part (i + 1) (size_of r) s)) (i + 1 + size_of r))
+    (Err (refusal 17 i))
 
 -- 16 goes before 17; at or past the end is the end
 unfoldable pub raw_step_at : Bool → List ℕ → ℕ → RawStep
 raw_step_at up s i =
-    pick (ltb i (length s)) (pick (known (at s i)) (raw_at (row_of up (at s i)) s i) (RawRefused (refusal 16 i))) RawEnd
+    pick (ltb i (length s)) (pick (known (at s i)) (raw_at (row_of up (at s i)) s i) (Err (refusal 16 i))) (Ok None)
 
 -- the command of a row and its number
 abbrev pub step_of : RawStep → Step
-step_of (RawFound r v next) = Found (command_of r (fields_of (row r) v)) next
-step_of RawEnd = End
-step_of (RawRefused e) = Refused e
+step_of (Ok (Some raw)) = Ok (Some (command_of raw.row (fields_of (row raw.row) raw.number), raw.next))
+step_of (Ok None) = Ok None
+step_of (Err e) = Err e
 
 unfoldable pub step_at : Bool → List ℕ → ℕ → Step
 step_at up s i = step_of (raw_step_at up s i)
@@ -125,35 +129,35 @@ abbrev pub fits_all : Command → Bool
 fits_all c = fits (row (row_at c)) (values_of c)
 
 -- the number behind the identifier, where the values fit
-unfoldable pub packed_of : ℕ → List ℕ → Packed
-packed_of r xs = pick (fits (row r) xs) (Number (number_of (row r) xs)) Unfit
+unfoldable pub packed_of : ℕ → List ℕ → Option ℕ
+packed_of r xs = pick (fits (row r) xs) (Some (number_of (row r) xs)) None
 
 -- ---- writing values of the row r into n bytes, or into the bytes l, from place i on
 
 -- 7 where there is no room
-unfoldable pub put_as : ℕ → ℕ → ℕ → Written
-put_as r n i = pick (leb (i + (1 + size_of r)) n) (Upto (i + (1 + size_of r))) (Unwritten (refused 7))
+unfoldable pub put_as : ℕ → ℕ → ℕ → Result ℕ Refusal
+put_as r n i = pick (leb (i + (1 + size_of r)) n) (Ok (i + (1 + size_of r))) (Err (refused 7))
 
 unfoldable pub put_in : ℕ → ℕ → List ℕ → ℕ → List ℕ
 put_in r v l i = pick (leb (i + (1 + size_of r)) (length l)) (sets l i (row_bytes r v)) l
 
 -- 18 where a value does not fit goes before it
-unfoldable pub written_as : ℕ → List ℕ → ℕ → ℕ → Written
-written_as r xs n i = pick (fits (row r) xs) (put_as r n i) (Unwritten (refused 18))
+unfoldable pub written_as : ℕ → List ℕ → ℕ → ℕ → Result ℕ Refusal
+written_as r xs n i = pick (fits (row r) xs) (put_as r n i) (Err (refused 18))
 
 unfoldable pub written_in : ℕ → List ℕ → List ℕ → ℕ → List ℕ
 written_in r xs l i = pick (fits (row r) xs) (put_in r (number_of (row r) xs) l i) l
 
 -- a command
-abbrev pub command_written : Command → ℕ → ℕ → Written
+abbrev pub command_written : Command → ℕ → ℕ → Result ℕ Refusal
 command_written c n i = written_as (row_at c) (values_of c) n i
 
 abbrev pub command_in : Command → List ℕ → ℕ → List ℕ
 command_in c l i = written_in (row_at c) (values_of c) l i
 
 -- values by direction and identifier: 16 where there is no such identifier goes before 18 and 7
-unfoldable pub fields_written : Bool → ℕ → List ℕ → ℕ → ℕ → Written
-fields_written up id xs n i = pick (known id) (written_as (row_of up id) xs n i) (Unwritten (refused 16))
+unfoldable pub fields_written : Bool → ℕ → List ℕ → ℕ → ℕ → Result ℕ Refusal
+fields_written up id xs n i = pick (known id) (written_as (row_of up id) xs n i) (Err (refused 16))
 
 unfoldable pub fields_in : Bool → ℕ → List ℕ → List ℕ → ℕ → List ℕ
 fields_in up id xs l i = pick (known id) (written_in (row_of up id) xs l i) l

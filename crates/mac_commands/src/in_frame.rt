@@ -1,62 +1,54 @@
 // Where the commands of a data frame lie.
 ghost use Rattle.std.specs.Prelude.{◌≡◌};
-ghost use Rattle.mac_commands.specs.InFrame.{lists_between_of, lists_of, in_frame_of};
+ghost use Rattle.mac_commands.specs.InFrame.{port_0_of, lists_of, in_frame_of};
 
-use frame::numbers::other_refusal;
-use frame::parser::{DataFrame, FrmPayload, Reading, read};
+use frame::parser::{DataFrame, FrmPayload, read_as_data};
 use frame::refusals::Refusal;
 use frame_bits::fctrl::is_uplink;
 
-// The direction of a frame's commands, and the ends of its two lists: `read_step` on the bytes up to fopts_end gives those of
-// FOpts, from place 8 on; on the bytes up to payload_end, of a clear payload, those on port 0, from payload_start on. A frame
-// with a list on port 0, which may be empty, has on_port_0.
+// The places of the list on port 0, which may be empty: that of its first byte, and the one past its last.
+#[derive(Clone, Copy)]
+pub struct PayloadList {
+    pub start: usize,
+    pub end: usize,
+}
+
+// The direction of a frame's commands, and where its two lists lie: `read_step` on the bytes up to fopts_end gives those of FOpts,
+// from place 8 on; on the bytes up to the end of port_0, of a clear payload, those on port 0, from its start on.
 #[derive(Clone, Copy)]
 pub struct CommandLists {
     pub uplink: bool,
     pub fopts_end: usize,
-    pub on_port_0: bool,
-    pub payload_start: usize,
-    pub payload_end: usize,
+    pub port_0: Option<PayloadList>,
 }
 
-#[derive(Clone, Copy)]
-pub enum InFrame {
-    Lists(CommandLists),
-    Refused(Refusal),
+// The list that a payload is.
+fn port_0_of(payload: FrmPayload) -> Option<PayloadList>
+    ensures { result ≡ port_0_of payload }
+{
+    match payload {
+        FrmPayload::Nothing => None,
+        FrmPayload::Data(_, _) => None,
+        FrmPayload::MacCommands(start, end) => Some(PayloadList { start, end }),
+    }
 }
 
-// The lists of a frame, the one on port 0 between these places.
-fn lists_between(d: DataFrame, on_port_0: bool, start: usize, end: usize) -> CommandLists
-    ensures { result ≡ lists_between_of d on_port_0 start end }
+#[tactic(auto, unfolding(crate::specs::InFrame::lists_of))]
+fn lists_of(d: DataFrame) -> CommandLists
+    ensures { result ≡ lists_of d }
 {
     CommandLists {
         uplink: is_uplink(d.mtype),
         fopts_end: d.fopts_end,
-        on_port_0: on_port_0,
-        payload_start: start,
-        payload_end: end,
-    }
-}
-
-fn lists_of(d: DataFrame) -> CommandLists
-    ensures { result ≡ lists_of d }
-{
-    let payload = d.payload;
-    let mic = d.mic;
-    match payload {
-        FrmPayload::Nothing => lists_between(d, false, mic, mic),
-        FrmPayload::Data(_, _) => lists_between(d, false, mic, mic),
-        FrmPayload::MacCommands(start, end) => lists_between(d, true, start, end),
+        port_0: port_0_of(d.payload),
     }
 }
 
 // The lists of commands of a data frame. A frame of another type is refused by 4.
-pub fn command_lists(frame: &[u8]) -> InFrame
+#[tactic(auto, unfolding(crate::specs::InFrame::in_frame_of))]
+pub fn command_lists(frame: &[u8]) -> Result<CommandLists, Refusal>
     ensures { result ≡ in_frame_of frame.now }
 {
-    let reading = read(frame);
-    let Reading::Data(d) = reading else {
-        return InFrame::Refused(other_refusal(reading));
-    };
-    InFrame::Lists(lists_of(d))
+    let fields = read_as_data(frame)?;
+    Ok(lists_of(fields))
 }

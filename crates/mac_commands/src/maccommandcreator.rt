@@ -1,13 +1,11 @@
 // Writing commands (maccommandcreator.rs of the crate).
 ghost use Rattle.std.specs.Prelude.{◌≡◌, ◌+◌, ◌*◌, ◌^◌, ◌≤◌, ◌<◌, leb, length};
 ghost use Rattle.base.specs.Storing.{Put};
-ghost use Rattle.frame.specs.Refusals.{refused};
 ghost use Rattle.mac_commands.specs.Layout.{row, place_in_row, width_at, bytes_of};
 ghost use Rattle.mac_commands.specs.Commands.{raw_of, fields_as, packed_of, put_as, put_in, written_as, written_in, command_written, command_in, fields_written, fields_in};
-ghost use Rattle.mac_commands.specs.declared.maccommandcreator.Written.TheVariants.{Refused as Unwritten};
 
 use crate::maccommands::Command;
-use crate::table::{FIELDS_MAX, count_of, is_known, place_at, power, row_of, size_of, width_at};
+use crate::table::{FIELDS_MAX, is_known, power, row_at, row_of};
 use frame::refusals::{BUFFER_TOO_SHORT, Refusal, UNKNOWN_COMMAND, VALUE_OUT_OF_RANGE};
 
 // A command as numbers: its row in the table (the nine that go down by their identifiers, then the nine that go up) and its
@@ -18,36 +16,18 @@ pub struct Fields {
     pub values: [u32; FIELDS_MAX],
 }
 
-// What writing answers: the place past the command, or a refusal.
-#[derive(Clone, Copy)]
-pub enum Written {
-    Upto(usize),
-    Refused(Refusal),
-}
-
-// The number behind an identifier, if every value fits its field.
-#[derive(Drop)]
-pub(crate) enum Packed {
-    Number(u64),
-    Unfit,
-}
-
 // The margin in six bits; 64, which they cannot hold, for one outside -32 to 31 (5.5).
 pub fn raw_of(m: i64) -> u32
     ensures { result ≡ raw_of m }
 {
-    if m < -32 {
-        return 64;
+    match m {
+        -32..=-1 => (m + 64) as u32,
+        0..=31 => m as u32,
+        _ => 64,
     }
-    if 31 < m {
-        return 64;
-    }
-    if m < 0 {
-        return (m + 64) as u32;
-    }
-    m as u32
 }
 
+// A command as its row and its values. It is one table, and so is as long as there are commands.
 #[tactic(auto, unfolding(crate::specs::Commands::fields_as))]
 pub fn fields_of(command: Command) -> Fields
     ensures { result ≡ fields_as command }
@@ -179,96 +159,74 @@ pub fn fields_of(command: Command) -> Fields
     }
 }
 
-// Whether a value is more than its field can hold.
-fn too_large(r: usize, k: usize, x: u32) -> bool
-    requires { (r < 18) × (k < 5) }
-    ensures { result ≡ leb (2 ^ width_at (row r) k) x }
-{
-    power(width_at(r, k)) <= (x as u64)
-}
-
-// A value at the place of its field.
-fn placed(r: usize, k: usize, x: u32) -> u64
-    requires r_bound { (r < 18) × (k < 5) }
-    requires x_bound { x < 2 ^ width_at (row r) k }
-    ensures { result ≡ x * 2 ^ place_in_row (row r) k }
-{
-    (x as u64) * power(place_at(r, k))
-}
-
-fn pack(r: usize, x: [u32; FIELDS_MAX]) -> Packed
+// The number behind an identifier, if every value fits its field.
+fn pack(r: usize, x: [u32; FIELDS_MAX]) -> Option<u64>
     requires { r < 18 }
     ensures { result ≡ packed_of r x }
 {
-    let n = count_of(r);
     let mut v: u64 = 0;
-    let mut k = 0;
-    while k < n {
-        let y = x[k];
-        if too_large(r, k, y) {
-            return Packed::Unfit;
+    for (k, &(place, width)) in row_at(r).1.iter().enumerate() {
+        let y = x[k] as u64;
+        if power(width) <= y {
+            return None;
         }
-        v += placed(r, k, y);
-        k += 1;
+        v += y * power(place);
     }
-    Packed::Number(v)
+    Some(v)
 }
 
-// Stores the `n` low bytes of a number from `from` on, low byte first; answers the place past them.
+// Stores the `n` low bytes of a number from `from` on, low byte first; answers the place past them. They are few, and a copy out of
+// all eight takes more steps.
 fn put_number(out: &mut [u8], from: usize, n: usize, v: u64) -> usize
     requires { from + n ≤ length out.old }
     ensures { Put out.old from (bytes_of n v) result out.new }
 {
     let mut rest = v;
-    let mut place = from;
-    let mut left = n;
-    while 0 < left {
+    for place in from..from + n {
         out[place] = (rest % 256) as u8;
-        rest = rest / 256;
-        place += 1;
-        left -= 1;
+        rest /= 256;
     }
-    place
+    from + n
 }
 
-// A refusal of writing, at place 0: nothing is read here that could be bad at a place.
-fn unwritten(number: u8) -> Written
-    ensures { result ≡ Unwritten (refused number) }
-{
-    Written::Refused(Refusal { number, place: 0 })
-}
-
-// The identifier of a row and the number behind it, where there is room for them.
-fn put_row(out: &mut [u8], at: usize, r: usize, v: u64) -> Written
+// The identifier of a row and the number behind it, where there is room for them. A refusal of writing has no place: nothing is
+// read here that could be bad at one.
+#[tactic(auto, unfolding(crate::specs::Commands::put_as, crate::specs::Commands::put_in))]
+fn put_row(out: &mut [u8], at: usize, r: usize, v: u64) -> Result<usize, Refusal>
     requires { r < 18 }
     ensures value { result ≡ put_as r (length out.old) at }
     ensures out_after { out.new ≡ put_in r v out.old at }
 {
-    let n = size_of(r);
+    let n = row_at(r).0;
     if out.len() <= at {
-        return unwritten(BUFFER_TOO_SHORT);
+        return Err(Refusal::of(BUFFER_TOO_SHORT));
     }
     if out.len() - at <= n {
-        return unwritten(BUFFER_TOO_SHORT);
+        return Err(Refusal::of(BUFFER_TOO_SHORT));
     }
     out[at] = (2 + r % 9) as u8;
-    Written::Upto(put_number(out, at + 1, n, v))
+    Ok(put_number(out, at + 1, n, v))
 }
 
-fn write_row(r: usize, values: [u32; FIELDS_MAX], out: &mut [u8], at: usize) -> Written
+#[tactic(auto, unfolding(crate::specs::Commands::packed_of, crate::specs::Commands::written_as, crate::specs::Commands::written_in))]
+fn write_row(
+    r: usize,
+    values: [u32; FIELDS_MAX],
+    out: &mut [u8],
+    at: usize,
+) -> Result<usize, Refusal>
     requires { r < 18 }
     ensures value { result ≡ written_as r values (length out.old) at }
     ensures out_after { out.new ≡ written_in r values out.old at }
 {
-    let packed = pack(r, values);
-    let Packed::Number(v) = packed else {
-        return unwritten(VALUE_OUT_OF_RANGE);
+    let Some(v) = pack(r, values) else {
+        return Err(Refusal::of(VALUE_OUT_OF_RANGE));
     };
     put_row(out, at, r, v)
 }
 
 // Writes a command from a place on, and answers the place past it. A refusal writes nothing.
-pub fn write_command(command: Command, out: &mut [u8], at: usize) -> Written
+pub fn write_command(command: Command, out: &mut [u8], at: usize) -> Result<usize, Refusal>
     ensures value { result ≡ command_written command (length out.old) at }
     ensures out_after { out.new ≡ command_in command out.old at }
 {
@@ -279,18 +237,19 @@ pub fn write_command(command: Command, out: &mut [u8], at: usize) -> Written
 
 // Writes the command with this direction and identifier, whose fields have these values; a value past its last field is not
 // looked at. A margin is given by its six bits.
+#[tactic(auto, unfolding(crate::specs::Commands::fields_written, crate::specs::Commands::fields_in))]
 pub fn write_fields(
     uplink: bool,
     id: u8,
     values: [u32; FIELDS_MAX],
     out: &mut [u8],
     at: usize,
-) -> Written
+) -> Result<usize, Refusal>
     ensures value { result ≡ fields_written uplink id values (length out.old) at }
     ensures out_after { out.new ≡ fields_in uplink id values out.old at }
 {
     if !is_known(id) {
-        return unwritten(UNKNOWN_COMMAND);
+        return Err(Refusal::of(UNKNOWN_COMMAND));
     }
     write_row(row_of(uplink, id), values, out, at)
 }

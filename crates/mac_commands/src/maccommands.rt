@@ -4,7 +4,7 @@ ghost use Rattle.base.specs.Bytes.{part};
 ghost use Rattle.mac_commands.specs.Layout.{row, fits, fields_of, low_first};
 ghost use Rattle.mac_commands.specs.Commands.{margin_of, command_of, raw_at, raw_step_at, step_at};
 
-use crate::table::{FIELDS_MAX, is_known, row_of, size_of};
+use crate::table::{FIELDS_MAX, is_known, row_at, row_of};
 use frame::refusals::{COMMAND_CUT_SHORT, Refusal, UNKNOWN_COMMAND};
 
 // A command with its fields. The first nine go down, the last nine up, both by their identifiers 02 to 0A. Frequencies are in
@@ -77,37 +77,27 @@ pub enum Command {
     },
 }
 
-// One step of reading: a command and the place of the next one, the end of the list, or a refusal with its place.
+// A command as it stands in the bytes: its row in the table and the number behind its identifier; and the place of the next one.
 #[derive(Clone, Copy)]
-pub enum Step {
-    Found(Command, usize),
-    End,
-    Refused(Refusal),
-}
-
-// The same with the command as it stands in the bytes: its row in the table and the number behind its identifier.
-#[derive(Clone, Copy)]
-pub enum RawStep {
-    Found(usize, u64, usize),
-    End,
-    Refused(Refusal),
+pub struct RawCommand {
+    pub row: usize,
+    pub number: u64,
+    pub next: usize,
 }
 
 // The margin of its six bits, in two's complement (5.5); -1 for a number that has more of them.
 pub fn margin_of(x: u32) -> i8
     ensures { result ≡ margin_of x }
 {
-    if x < 32 {
-        return x as i8;
+    match x {
+        0..=31 => x as i8,
+        32..=63 => x as i8 - 64,
+        _ => -1,
     }
-    if x < 64 {
-        return x as i8 - 64;
-    }
-    -1
 }
 
 // The values of a row's fields, of the number behind its identifier; 0 for a field that it lacks, as for one of no row. Dividing by 1
-// names a field's place as the others do.
+// names a field's place as the others do. The fields are written out, since a walk over those of `row_at` takes half as many steps again.
 #[tactic(auto, unfolding(crate::specs::Layout::row, crate::specs::Layout::downs, crate::specs::Layout::ups, crate::specs::Layout::place_in_row, crate::specs::Layout::width_at))]
 pub fn values_of(r: usize, v: u64) -> [u32; FIELDS_MAX]
     ensures { result ≡ fields_of (row r) v }
@@ -171,7 +161,7 @@ pub fn values_of(r: usize, v: u64) -> [u32; FIELDS_MAX]
     }
 }
 
-// The command of a row and of the values of its fields.
+// The command of a row and of the values of its fields. It is one table, and so is as long as there are commands.
 #[tactic(auto, unfolding(crate::specs::Commands::commands, crate::specs::Commands::command_of, crate::specs::Layout::row, crate::specs::Layout::downs, crate::specs::Layout::ups, crate::specs::Layout::width_at))]
 fn command_of(r: usize, x: [u32; FIELDS_MAX]) -> Command
     requires { fits (row r) x ≡ true }
@@ -269,49 +259,46 @@ fn number_at(bytes: &[u8], from: usize, n: usize) -> u64
     four + 4294967296 * (bytes[from + 4] as u64)
 }
 
-fn read_row(bytes: &[u8], at: usize, r: usize) -> RawStep
+#[tactic(auto, unfolding(crate::specs::Commands::raw_at))]
+fn read_row(bytes: &[u8], at: usize, r: usize) -> Result<Option<RawCommand>, Refusal>
     requires { (r < 18) × (at < length bytes.now) }
     ensures { result ≡ raw_at r bytes.now at }
 {
-    let n = size_of(r);
+    let n = row_at(r).0;
     if bytes.len() - at <= n {
-        return RawStep::Refused(Refusal {
-            number: COMMAND_CUT_SHORT,
-            place: at,
-        });
+        return Err(Refusal::at(COMMAND_CUT_SHORT, at));
     }
     let v = number_at(bytes, at + 1, n);
-    RawStep::Found(r, v, at + 1 + n)
+    Ok(Some(RawCommand {
+        row: r,
+        number: v,
+        next: at + 1 + n,
+    }))
 }
 
-// Finds the command at a place of a list that goes up or down. At or past the end of the list is its end.
-pub fn read_raw(uplink: bool, bytes: &[u8], at: usize) -> RawStep
+// Finds the command at a place of a list that goes up or down. At or past the end of the list there is none.
+#[tactic(auto, unfolding(crate::specs::Commands::raw_step_at))]
+pub fn read_raw(uplink: bool, bytes: &[u8], at: usize) -> Result<Option<RawCommand>, Refusal>
     ensures { result ≡ raw_step_at uplink bytes.now at }
 {
     if bytes.len() <= at {
-        return RawStep::End;
+        return Ok(None);
     }
     let id = bytes[at];
     if !is_known(id) {
-        return RawStep::Refused(Refusal {
-            number: UNKNOWN_COMMAND,
-            place: at,
-        });
+        return Err(Refusal::at(UNKNOWN_COMMAND, at));
     }
     read_row(bytes, at, row_of(uplink, id))
 }
 
-// Reads the command there.
-pub fn read_step(uplink: bool, bytes: &[u8], at: usize) -> Step
+// Reads the command there; answers it with the place of the next one.
+#[tactic(auto, unfolding(crate::specs::Commands::step_at))]
+pub fn read_step(uplink: bool, bytes: &[u8], at: usize) -> Result<Option<(Command, usize)>, Refusal>
     ensures { result ≡ step_at uplink bytes.now at }
 {
-    let raw = read_raw(uplink, bytes, at);
-    match raw {
-        RawStep::Found(r, v, next) => {
-            let values = values_of(r, v);
-            Step::Found(command_of(r, values), next)
-        }
-        RawStep::End => Step::End,
-        RawStep::Refused(refusal) => Step::Refused(refusal),
-    }
+    let Some(raw) = read_raw(uplink, bytes, at)? else {
+        return Ok(None);
+    };
+    let values = values_of(raw.row, raw.number);
+    Ok(Some((command_of(raw.row, values), raw.next)))
 }

@@ -1,38 +1,41 @@
-// The layouts as numbers: for each row (down, then up, by the identifier) how many bytes stand behind the identifier, how many fields
-// there are, and of each field its lowest bit and how many bits it has.
+// The layouts: a row for each command, those that go down by their identifiers and then those that go up.
 ghost use Rattle.std.specs.Prelude.{◌≡◌, ◌^◌, ◌≤◌, ◌<◌};
-ghost use Rattle.mac_commands.specs.Layout.{row, row_of, known, size_of, count_in_row, place_in_row, width_at};
-ghost use Rattle.mac_commands.specs.Table.{table_row_of};
+ghost use Rattle.mac_commands.specs.Layout.{row, row_of, known, size_of};
+ghost use Rattle.mac_commands.specs.Table.{field_list};
 
 // A command has at most so many fields.
 pub(crate) const FIELDS_MAX: usize = 5;
 
-// A row as one number, from bit 0 up: for each of five fields its lowest bit in 6 bits and its width in 5, then the count of fields
-// and the count of bytes in 3 each. A match becomes one load; a constant array would be copied at each use.
-#[tactic(auto, unfolding(crate::specs::Layout::row, crate::specs::Layout::downs, crate::specs::Layout::ups, crate::specs::Layout::bits_of, crate::specs::Layout::count_in_row, crate::specs::Layout::place_in_row, crate::specs::Layout::width_at, crate::specs::Table::table_row_of))]
-fn table_row(r: usize) -> u64
-    ensures { result ≡ table_row_of r }
+// How many bytes stand behind the identifier, and of each field its lowest bit and how many bits it has.
+#[derive(Clone, Copy)]
+pub(crate) struct Row(pub(crate) usize, pub(crate) &'static [(u8, u8)]);
+
+#[tactic(auto, unfolding(crate::specs::Layout::row, crate::specs::Layout::downs, crate::specs::Layout::ups, crate::specs::Layout::bits_of, crate::specs::Layout::size_of, crate::specs::Layout::count_in_row, crate::specs::Layout::place_in_row, crate::specs::Layout::width_at))]
+pub(crate) fn row_at(r: usize) -> Row
+    requires { r < 18 }
+    ensures size { result.0 ≡ size_of r }
+    ensures fields { result.1.now ≡ field_list (row r) }
 {
     match r {
-        0 => 0x0901_0020_0410_4200,
-        1 => 0x1291_81b9_0208_0104,
-        2 => 0x0480_8010_0200_4100,
-        3 => 0x1182_0041_8208_00c4,
-        4 => 0x0000_0000_0000_0000,
-        5 => 0x1602_8240_4930_4200,
-        6 => 0x0480_8010_0200_4100,
-        7 => 0x0580_8010_4002_2045,
-        8 => 0x1102_0040_0830_4200,
-        9 => 0x0000_0000_0000_0000,
-        10 => 0x0580_8010_1002_0842,
-        11 => 0x0000_0000_0000_0000,
-        12 => 0x0580_8010_1002_0842,
-        13 => 0x0901_0020_040c_4200,
-        14 => 0x0500_8010_0202_0041,
-        15 => 0x0000_0000_0000_0000,
-        16 => 0x0000_0000_0000_0000,
-        17 => 0x0500_8010_0202_0041,
-        _ => 0,
+        0 => Row(2, &[(0, 8), (8, 8)]),
+        1 => Row(4, &[(4, 4), (0, 4), (8, 16), (28, 3), (24, 4)]),
+        2 => Row(1, &[(0, 4)]),
+        3 => Row(4, &[(4, 3), (0, 4), (8, 24)]),
+        4 => Row(0, &[]),
+        5 => Row(5, &[(0, 8), (8, 24), (36, 4), (32, 4)]),
+        6 => Row(1, &[(0, 4)]),
+        7 => Row(1, &[(5, 1), (4, 1), (0, 4)]),
+        8 => Row(4, &[(0, 8), (8, 24)]),
+        9 => Row(0, &[]),
+        10 => Row(1, &[(2, 1), (1, 1), (0, 1)]),
+        11 => Row(0, &[]),
+        12 => Row(1, &[(2, 1), (1, 1), (0, 1)]),
+        13 => Row(2, &[(0, 8), (8, 6)]),
+        14 => Row(1, &[(1, 1), (0, 1)]),
+        15 => Row(0, &[]),
+        16 => Row(0, &[]),
+        17 => Row(1, &[(1, 1), (0, 1)]),
+        _ => Row(0, &[]),
     }
 }
 
@@ -40,10 +43,7 @@ fn table_row(r: usize) -> u64
 pub(crate) fn is_known(id: u8) -> bool
     ensures { result ≡ known id }
 {
-    if id < 2 {
-        return false;
-    }
-    id <= 10
+    matches!(id, 2..=10)
 }
 
 pub(crate) fn row_of(uplink: bool, id: u8) -> usize
@@ -51,38 +51,7 @@ pub(crate) fn row_of(uplink: bool, id: u8) -> usize
     ensures { result ≡ row_of uplink id }
 {
     let n = (id - 2) as usize;
-    if uplink {
-        return 9 + n;
-    }
-    n
-}
-
-pub(crate) fn size_of(r: usize) -> usize
-    requires { r < 18 }
-    ensures { result ≡ size_of r }
-{
-    (table_row(r) / 288230376151711744 % 8) as usize
-}
-
-pub(crate) fn count_of(r: usize) -> usize
-    requires { r < 18 }
-    ensures { result ≡ count_in_row (row r) }
-{
-    (table_row(r) / 36028797018963968 % 8) as usize
-}
-
-pub(crate) fn place_at(r: usize, k: usize) -> u8
-    requires { (r < 18) × (k < 5) }
-    ensures { result ≡ place_in_row (row r) k }
-{
-    ((table_row(r) >> (11 * k)) % 64) as u8
-}
-
-pub(crate) fn width_at(r: usize, k: usize) -> u8
-    requires { (r < 18) × (k < 5) }
-    ensures { result ≡ width_at (row r) k }
-{
-    ((table_row(r) >> (11 * k + 6)) % 32) as u8
+    if uplink { 9 + n } else { n }
 }
 
 // 2 to the n.

@@ -1,77 +1,95 @@
-// The arguments of a record, by their places. What does not lie inside a record is taken as zeros.
+// The arguments of a record, which are read one after the other. What does not lie inside a record is taken as zeros.
 ghost use Rattle.std.specs.Prelude.{◌≤◌};
-
-use base::storing::{block_at, byte_at, four_at};
-use frame::keys::MaybeKey;
 
 // No record, frame or output of a case is longer.
 pub const ROOM: usize = 1000;
 
-// A length of two bytes, low byte first, or all the room where it says more.
-pub fn length_of(low: u8, high: u8) -> usize
-    ensures { result ≤ 1000 }
-{
-    let n = (low as usize) + (high as usize) * 256;
-    if n < ROOM { n } else { ROOM }
+// What is still to be read of a record.
+#[derive(Clone, Copy)]
+pub struct Record<'a> {
+    pub rest: &'a [u8],
 }
 
-// The place n bytes after another.
-pub fn after(place: usize, n: usize) -> usize {
-    place.wrapping_add(n)
-}
-
-pub fn length_at(record: &[u8], place: usize) -> usize
-    ensures { result ≤ 1000 }
-{
-    let low = byte_at(record, place);
-    let high = byte_at(record, after(place, 1));
-    length_of(low, high)
-}
-
-// Fills `to` with the bytes from a place on.
-pub fn copy(to: &mut [u8], record: &[u8], place: usize) {
-    for i in 0..to.len() {
-        to[i] = byte_at(record, after(place, i));
+impl<'a> Record<'a> {
+    // The next `N` bytes, or only zeros where there are not so many.
+    pub fn run<const N: usize>(&mut self) -> [u8; N] {
+        let Some((run, rest)) = self.rest.split_first_chunk::<N>() else {
+            self.rest = &[];
+            return [0u8; N];
+        };
+        self.rest = rest;
+        *run
     }
-}
 
-pub fn two_at(record: &[u8], place: usize) -> [u8; 2] {
-    let mut r = [0u8; 2];
-    copy(&mut r, record, place);
-    r
-}
-
-pub fn eight_at(record: &[u8], place: usize) -> [u8; 8] {
-    let mut r = [0u8; 8];
-    copy(&mut r, record, place);
-    r
-}
-
-// A key that may not be given: 1 and the key, or 0.
-pub fn maybe_key_at(record: &[u8], place: usize) -> MaybeKey {
-    let given = byte_at(record, place) == 1;
-    let key = block_at(record, after(place, 1));
-    MaybeKey {
-        given: given,
-        key: key,
+    pub fn byte(&mut self) -> u8 {
+        let [byte] = self.run::<1>();
+        byte
     }
-}
 
-fn number_of(a: u8, b: u8, c: u8, d: u8) -> u32 {
-    (a as u32) + (b as u32) * 256 + (c as u32) * 65536 + (d as u32) * 16777216
-}
+    // A yes is 1.
+    pub fn flag(&mut self) -> bool {
+        self.byte() == 1
+    }
 
-// A number of four bytes, low byte first.
-pub fn number_at(record: &[u8], place: usize) -> u32 {
-    let b = four_at(record, place);
-    number_of(b[0], b[1], b[2], b[3])
-}
+    // A number of four bytes, low byte first.
+    pub fn number(&mut self) -> u32 {
+        u32::from_le_bytes(self.run())
+    }
 
-// Fills `to` with the numbers from a place on.
-pub fn copy_numbers(to: &mut [u32], record: &[u8], from: usize) {
-    let mut place = from;
-    for i in 0..to.len() {
-        to[i] = number_at(record, place);
-        place = after(place, 4);
+    // An offset of eight bytes, low byte first.
+    pub fn offset(&mut self) -> usize {
+        let low = self.number();
+        let high = self.number();
+        (low as usize) + (high as usize) * 4294967296
+    }
+
+    // A length of two bytes, low byte first, or all the room where it says more.
+    pub fn length(&mut self) -> usize
+        ensures { result ≤ 1000 }
+    {
+        let low = self.byte();
+        let high = self.byte();
+        input::record_length([low, high], ROOM)
+    }
+
+    // A key that may not be given: 1 and the key, or another number and sixteen bytes that are passed over.
+    pub fn maybe_key(&mut self) -> Option<[u8; 16]> {
+        let given = self.flag();
+        let key = self.run();
+        given.then_some(key)
+    }
+
+    // Fills `to` with the next bytes, and with zeros once there are no more.
+    pub fn fill(&mut self, to: &mut [u8]) {
+        for b in to.iter_mut() {
+            *b = self.byte();
+        }
+    }
+
+    pub fn fill_numbers(&mut self, to: &mut [u32]) {
+        for n in to.iter_mut() {
+            *n = self.number();
+        }
+    }
+
+    // As much of the room as a length says.
+    pub fn part<'b>(&mut self, room: &'b mut [u8; ROOM]) -> &'b mut [u8] {
+        let n = self.length();
+        &mut room[..n]
+    }
+
+    // Bytes behind their length.
+    pub fn bytes<'b>(&mut self, room: &'b mut [u8; ROOM]) -> &'b mut [u8] {
+        let bytes = self.part(room);
+        self.fill(bytes);
+        bytes
+    }
+
+    // Numbers behind their count.
+    pub fn numbers<'b>(&mut self, room: &'b mut [u32; ROOM]) -> &'b mut [u32] {
+        let n = self.length();
+        let numbers = &mut room[..n];
+        self.fill_numbers(numbers);
+        numbers
     }
 }

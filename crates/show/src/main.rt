@@ -10,8 +10,9 @@ fn main(rt: HostRuntime) -> io::Result<()> {
     let mut frame = [0u8; START_ROOM];
     let whole = input::read_input(&mut rt.reader(), &mut frame)?;
     let mut out = [0u8; TEXT_ROOM];
+    // A buffer of TEXT_ROOM bytes is not refused.
     let text = show_text::describe_input(&frame[..whole.start], whole.count, &mut out);
-    if rt.stdout().write_all(&out[..text.length]).is_err() {
+    if rt.stdout().write_all(&out[..text.unwrap_or(0)]).is_err() {
         // Where this cannot be written either, there is nothing left to say it by.
         let _ = eprintln!(rt; "show: the output could not be written");
     }

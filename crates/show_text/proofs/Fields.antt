@@ -66,10 +66,6 @@ pub mic-part : (f : List ℕ) (m : ℕ) → m ≡ length f - 4 → take (length 
 mic-part f m e =
     take_all (length f - m) (drop m f) (omega (arith, length-drop m f)) ∙ ap (λ (n : ℕ). drop n f) e
 
--- the last four of the 23 bytes of a join-request
-pub mic_last : (f : List ℕ) → length f ≡ 23 → part 19 4 f ≡ mic_of f
-mic_last f h = ap (λ (n : ℕ). take (n - 19) (drop 19 f)) (sym h) ∙ mic-part f 19 (omega arith)
-
 -- FCtrl as a part of the frame
 pub fctrl-part : (f : List ℕ) (d : DataFrame) → IsData f → d ≡ data_of f → part 5 1 f ≡ d.fctrl ∷ []
 unfolding data_of

@@ -1,6 +1,7 @@
 -- How long each line is at most, and so each text: a number below 100,000 has at most five digits, any number has at most
 -- twenty, a byte has two.
 -- Assumes nothing.
+use Rattle.std.specs.Prelude.{Err, None, Ok, Option, Some}
 use mathlib.Core.Path.{◌≡◌, refl}
 use mathlib.Core.List.{List, [], ◌∷◌, ◌++◌}
 use mathlib.Core.Logic.{⊎_elim}
@@ -15,15 +16,13 @@ use Rattle.frame.specs.Reading.{read_of}
 use Rattle.frame.specs.ReadingNumbers.{port_number_of}
 use Rattle.frame.specs.Refusals.{refusal}
 use Rattle.frame.specs.declared.refusals.Refusal.{Refusal}
-use Rattle.frame.specs.declared.parser.FPort.{FPort}
-use Rattle.frame.specs.declared.parser.FPort.TheVariants.{Absent, Port}
 use Rattle.frame.specs.declared.parser.FrmPayload.{FrmPayload}
 use Rattle.frame.specs.declared.parser.FrmPayload.TheVariants.{Nothing, Data as PlainData, MacCommands}
 use Rattle.frame.specs.declared.parser.DataFrame.{DataFrame}
-use Rattle.frame.specs.declared.parser.Reading.{Reading}
-use Rattle.frame.specs.declared.parser.Reading.TheVariants.{JoinRequest, JoinAccept, Data, Refused}
+use Rattle.frame.specs.Reading.{Reading}
+use Rattle.frame.specs.declared.parser.Frame.TheVariants.{JoinRequest, JoinAccept, Data}
 use Rattle.frame.proofs.ReadingLaws.{accept_read, data_read, data_fields}
-use Rattle.show_text.specs.Text.{hex_of, decimal_of, type_word, length_word, fcnt_word, fopts_word, port_word, refused_word, at_word, payload_word, space, newline, hex_line_of, number_line, pair_line, port_line, place_line, Spans, payload_line, header_text, rest_text, data_text, euis_text, join_request_text, join_accept_text, refusal_text, text_of_reading, text_of, text_of_input}
+use Rattle.show_text.specs.Text.{hex_of, decimal_of, type_word, length_word, fcnt_word, fopts_word, port_word, refused_word, at_word, payload_word, space, newline, hex_line_of, number_line, pair_line, port_line, place_line, Spans, payload_line, header_text, rest_text, data_text, join_request_text, join_accept_text, refusal_text, text_of_reading, text_of, text_of_input}
 use Rattle.show_text.proofs.Decimal.{length-decimal_in, length_small}
 use Rattle.show_text.proofs.Fields.{Fields, fields}
 
@@ -68,10 +67,10 @@ length_small_pair word m between n h k =
       length_small_line between n k,
     )
 
-pub length-port_line : (p : FPort) → port_number_of p < 100000 → length (port_line p) ≤ 11
+pub length-port_line : (p : (Option ℕ)) → port_number_of p < 100000 → length (port_line p) ≤ 11
 unfolding port_line
-length-port_line Absent h = omega arith
-length-port_line (Port p) h = length_small_line port_word p h
+length-port_line None h = omega arith
+length-port_line (Some p) h = length_small_line port_word p h
 
 length-place_line : (start end : ℕ) → start ≤ end → end < 100000 → length (place_line start end) ≤ 20
 unfolding place_line
@@ -86,10 +85,6 @@ length-payload_line (MacCommands start end) h = length-place_line start end h.0 
 
 pub length_part : (i n : ℕ) (s : List ℕ) → length (part i n s) ≤ n
 length_part i n s = simp length-take (omega arith)
-
--- a line of a part of a frame
-pub length_part_line : (word : List ℕ) (i n : ℕ) (s : List ℕ) → length (hex_line_of word (part i n s)) ≤ length word + 2 * n + 1
-length_part_line word i n s = omega (arith, length-hex_line_of word (part i n s), length_part i n s)
 
 pub length-mic_of : (f : List ℕ) → length (mic_of f) ≤ 4
 length-mic_of f = simp length-drop (omega arith)
@@ -121,11 +116,6 @@ module _ (f : List ℕ) (d : DataFrame) (known : Fields f d) where
   length-data_text : length (data_text f d) ≤ 128
   unfolding data_text
   length-data_text = simp length-append (omega (arith, length-header_text, length-rest_text))
-
-pub length-euis_text : (f : List ℕ) → length (euis_text f) ≤ 53
-length-euis_text f =
-    simp (length-append, length-hex_line_of)
-    (omega (arith, length_small_line type_word 0 (omega arith), length_part 1 8 f, length_part 9 8 f))
 
 length-join_request_text : (f : List ℕ) → length (join_request_text f) ≤ 77
 unfolding join_request_text
@@ -167,12 +157,12 @@ length-refusal_text r = length_refusal_line r.number r.place
 module _ (f : List ℕ) (bytes : AreBytes f) where
   length-text_of_reading : (r : Reading) → read_of f ≡ r → length (text_of_reading f r) ≤ 128
   unfolding text_of_reading
-  length-text_of_reading JoinRequest e = omega (arith, length-join_request_text f)
-  length-text_of_reading (JoinAccept n) e =
+  length-text_of_reading (Ok JoinRequest) e = omega (arith, length-join_request_text f)
+  length-text_of_reading (Ok (JoinAccept n)) e =
       let small : n < 100000 = ⊎_elim (λ q. omega arith) (λ q. omega arith) (accept_read f e).either in
       omega (arith, length-join_accept_text n small)
-  length-text_of_reading (Data d) e = length-data_text f d (fields f d bytes (data_read f e) (data_fields f e))
-  length-text_of_reading (Refused r) e = omega (arith, length-refusal_text r)
+  length-text_of_reading (Ok (Data d)) e = length-data_text f d (fields f d bytes (data_read f e) (data_fields f e))
+  length-text_of_reading (Err r) e = omega (arith, length-refusal_text r)
 
   length-text_of : length (text_of f) ≤ 128
   unfolding text_of

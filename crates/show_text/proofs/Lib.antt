@@ -3,3 +3,4 @@ pub mod Described
 pub mod Digits
 pub mod Fields
 pub mod Lengths
+pub mod Writing

@@ -1,20 +1,16 @@
 -- The text that `show` writes for a frame, from docs/RULES.md, Text: what stands in each line, byte by byte in ASCII.
 -- A line is a word, a value and a line end (10). Hex is lower case and in frame order, numbers are decimal.
 -- Assumes nothing.
-use Rattle.std.specs.Prelude.{List, [], ◌∷◌, ◌++◌, ℕ, zero, suc, ◌+◌, ◌-◌, ◌/◌, ◌%◌, ◌≤◌, ◌<◌, ltb, length, drop}
+use Rattle.std.specs.Prelude.{List, [], ◌∷◌, ◌++◌, ℕ, zero, suc, ◌+◌, ◌-◌, ◌/◌, ◌%◌, ◌≤◌, ◌<◌, ltb, length, drop, Option, Some, None, Result, Ok, Err}
 use Rattle.base.specs.Bytes.{pick}
 use Rattle.frame.specs.Layout.{dev_addr_of, mic_of, app_eui_of, dev_eui_of, dev_nonce_of}
-use Rattle.frame.specs.Reading.{read_of}
-use Rattle.frame.specs.Refusals.{refusal, refused, not_refused}
+use Rattle.frame.specs.Reading.{Reading, read_of}
+use Rattle.frame.specs.Refusals.{refusal, refused}
 use Rattle.frame.specs.declared.refusals.Refusal.{Refusal}
-use Rattle.frame.specs.declared.parser.FPort.{FPort}
-use Rattle.frame.specs.declared.parser.FPort.TheVariants.{Absent, Port}
 use Rattle.frame.specs.declared.parser.FrmPayload.{FrmPayload}
 use Rattle.frame.specs.declared.parser.FrmPayload.TheVariants.{Nothing, Data as PlainData, MacCommands}
 use Rattle.frame.specs.declared.parser.DataFrame.{DataFrame}
-use Rattle.frame.specs.declared.parser.Reading.{Reading}
-use Rattle.frame.specs.declared.parser.Reading.TheVariants.{JoinRequest, JoinAccept, Data, Refused}
-use Rattle.show_text.specs.declared.Description.{Description}
+use Rattle.frame.specs.declared.parser.Frame.TheVariants.{JoinRequest, JoinAccept, Data}
 
 -- ---- digits
 
@@ -115,9 +111,9 @@ hex_line_of word bytes = line word (hex_of bytes)
 unfoldable pub number_line : List ℕ → ℕ → List ℕ
 number_line word n = line word (decimal_of n)
 
-unfoldable pub port_line : FPort → List ℕ
-port_line Absent = line port_word none
-port_line (Port p) = number_line port_word p
+unfoldable pub port_line : Option ℕ → List ℕ
+port_line None = line port_word none
+port_line (Some p) = number_line port_word p
 
 -- two numbers, each after a word of its own
 unfoldable pub pair_line : List ℕ → ℕ → List ℕ → ℕ → List ℕ
@@ -168,10 +164,10 @@ unfoldable pub refusal_text : Refusal → List ℕ
 refusal_text r = pair_line refused_word r.number at_word r.place
 
 unfoldable pub text_of_reading : List ℕ → Reading → List ℕ
-text_of_reading f JoinRequest = join_request_text f
-text_of_reading f (JoinAccept n) = join_accept_text n
-text_of_reading f (Data d) = data_text f d
-text_of_reading f (Refused r) = refusal_text r
+text_of_reading f (Ok JoinRequest) = join_request_text f
+text_of_reading f (Ok (JoinAccept n)) = join_accept_text n
+text_of_reading f (Ok (Data d)) = data_text f d
+text_of_reading f (Err r) = refusal_text r
 
 unfoldable pub text_of : List ℕ → List ℕ
 text_of f = text_of_reading f (read_of f)
@@ -187,10 +183,8 @@ abbrev pub text_room : ℕ
 text_room = 128
 
 -- what is answered: the text's length, or 7 where the buffer is too short
-unfoldable pub described_of : List ℕ → List ℕ → Description
-described_of text out =
-    pick (ltb (length out) text_room) (record { refusal = refused 7; length = 0 })
-    (record { refusal = not_refused; length = length text })
+unfoldable pub described_of : List ℕ → List ℕ → Result ℕ Refusal
+described_of text out = pick (ltb (length out) text_room) (Err (refused 7)) (Ok (length text))
 
 -- the buffer afterwards: the text at its start, and nothing changed where it is too short
 unfoldable pub described_in : List ℕ → List ℕ → List ℕ

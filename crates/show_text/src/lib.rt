@@ -1,335 +1,149 @@
 // The text that `show` writes for a frame (docs/RULES.md, Text).
 #![tactic(auto)]
 
-ghost use Rattle.std.specs.Prelude.{◌≡◌, [], ◌∷◌, ◌++◌, ◌+◌, ◌-◌, ◌*◌, ◌≤◌, ◌<◌, length};
-ghost use Rattle.base.specs.Bytes.{part};
+ghost use Rattle.std.specs.Prelude.{◌≡◌, ◌≤◌, length};
 ghost use Rattle.base.specs.Storing.{Put};
 ghost use Rattle.frame.specs.Reading.{data_of, read_of};
 ghost use Rattle.frame.specs.Conditions.{IsData};
-ghost use Rattle.show_text.specs.Text.{digit_of, hex_of, decimal_of, type_word, newline, hex_line_of, number_line, pair_line, place_line, Spans, payload_line, port_line, header_text, rest_text, data_text, euis_text, join_request_text, join_accept_text, refusal_text, text_of, text_of_input, described_of, described_in};
+ghost use Rattle.show_text.specs.Text.{place_line, Spans, payload_line, port_line, data_text, join_request_text, join_accept_text, refusal_text, text_of, text_of_input, described_of, described_in};
+ghost use Rattle.show_text.specs.Writing.{Adds};
 
-use base::storing::wide;
+mod writer;
+
+use crate::writer::Text;
 use frame::packet_length::{
     APP_EUI_AT, DEV_ADDR_AT, DEV_EUI_AT, DEV_NONCE_AT, FCNT_AT, FCTRL_AT, FOPTS_AT,
-    JOIN_REQUEST_LEN, PHY_PAYLOAD_MAX_LEN, REQUEST_MIC_AT,
+    PHY_PAYLOAD_MAX_LEN, REQUEST_MIC_AT,
 };
-use frame::parser::{DataFrame, FPort, FrmPayload, Reading, read};
+use frame::parser::{DataFrame, Frame, FrmPayload, read};
 use frame::refusals::{BUFFER_TOO_SHORT, FRAME_TOO_LONG, Refusal};
 
 // A buffer of so many bytes has room for every text.
 pub const TEXT_ROOM: usize = 128;
 
-// A text that was written: how many bytes it has, beside the refusal.
-#[derive(Clone, Copy)]
-pub struct Description {
-    pub refusal: Refusal,
-    pub length: usize,
-}
-
-// The digits of hex and, its first ten, of decimal.
-const DIGITS: [u8; 16] = [
-    b'0', b'1', b'2', b'3', b'4', b'5', b'6', b'7', b'8', b'9', b'a', b'b', b'c', b'd', b'e', b'f',
-];
-
-// A number of 64 bits has at most so many digits.
-const DECIMAL_ROOM: usize = 20;
-
-fn digit(n: usize) -> u8
-    requires { n < 16 }
-    ensures { result ≡ digit_of n }
-{
-    DIGITS[n]
-}
-
-// Each writer below puts its bytes into out from the place at on, and answers the place after them.
-
-fn put_newline(out: &mut [u8], at: usize) -> usize
-    requires { at < length out.old }
-    ensures { Put out.old at newline result out.new }
-{
-    out[at] = b'\n';
-    at + 1
-}
-
-fn put_hex_byte(out: &mut [u8], at: usize, b: u8) -> usize
-    requires { at + 2 ≤ length out.old }
-    ensures { Put out.old at (hex_of (b ∷ [])) result out.new }
-{
-    let n = b as usize;
-    out[at] = digit(n / 16);
-    out[at + 1] = digit(n % 16);
-    at + 2
-}
-
-fn put_hex(out: &mut [u8], at: usize, bytes: &[u8]) -> usize
-    requires { at + 2 * length bytes.now ≤ length out.old }
-    ensures { Put out.old at (hex_of bytes.now) result out.new }
-{
-    let mut j = at;
-    let mut i = 0;
-    while i < bytes.len() {
-        j = put_hex_byte(out, j, bytes[i]);
-        i += 1;
-    }
-    j
-}
-
-// The digits are made from the last one on, until one is left.
-fn put_decimal(out: &mut [u8], at: usize, n: usize) -> usize
-    requires { at + length (decimal_of n) ≤ length out.old }
-    ensures { Put out.old at (decimal_of n) result out.new }
-{
-    let mut digits = [0u8; DECIMAL_ROOM];
-    let mut first = DECIMAL_ROOM - 1;
-    let mut rest = n;
-    while rest > 9 {
-        digits[first] = digit(rest % 10);
-        first -= 1;
-        rest /= 10;
-    }
-    digits[first] = digit(rest);
-    base::storing::put(out, at, &digits[first..])
-}
-
-// A line of the bytes start..end of a frame.
-fn put_hex_line(
-    out: &mut [u8],
-    at: usize,
-    word: &[u8],
-    frame: &[u8],
-    start: usize,
-    end: usize,
-) -> usize
-    requires start_le_end { (start ≤ end) × (end ≤ length frame.now) }
-    requires start_in_bounds { at + length word.now + 2 * (end - start) < length out.old }
-    ensures { Put out.old at (hex_line_of word.now (part start (end - start) frame.now)) result out.new }
-{
-    let j = base::storing::put(out, at, word);
-    let k = put_hex(out, j, &frame[start..end]);
-    put_newline(out, k)
-}
-
-fn put_word_number(out: &mut [u8], at: usize, word: &[u8], n: usize) -> usize
-    requires { at + length (word.now ++ decimal_of n) ≤ length out.old }
-    ensures { Put out.old at (word.now ++ decimal_of n) result out.new }
-{
-    let j = base::storing::put(out, at, word);
-    put_decimal(out, j, n)
-}
-
-fn put_number_line(out: &mut [u8], at: usize, word: &[u8], n: usize) -> usize
-    requires { at + length (number_line word.now n) ≤ length out.old }
-    ensures { Put out.old at (number_line word.now n) result out.new }
-{
-    let j = put_word_number(out, at, word, n);
-    put_newline(out, j)
-}
-
-fn put_pair_line(
-    out: &mut [u8],
-    at: usize,
-    word: &[u8],
-    m: usize,
-    between: &[u8],
-    n: usize,
-) -> usize
-    requires { at + length (pair_line word.now m between.now n) ≤ length out.old }
-    ensures { Put out.old at (pair_line word.now m between.now n) result out.new }
-{
-    let j = put_word_number(out, at, word, m);
-    put_number_line(out, j, between, n)
-}
-
-// The first line of every text but a refusal's, at the start of out.
-fn put_type_line(out: &mut [u8], mtype: u8) -> usize
-    requires { 128 ≤ length out.old }
-    ensures { Put out.old 0 (number_line type_word mtype) result out.new }
-{
-    put_number_line(out, 0, b"type ", wide(mtype))
-}
-
 // The lines of a data frame that say `none` where there is nothing.
 
-fn put_port_line(out: &mut [u8], at: usize, port: FPort) -> usize
-    requires { at + 11 ≤ length out.old }
-    ensures { Put out.old at (port_line port) result out.new }
+fn add_port_line(text: &mut Text, port: Option<u8>)
+    ensures { Adds text.old (port_line port) text.new }
 {
     match port {
-        FPort::Absent => base::storing::put(out, at, b"port none\n"),
-        FPort::Port(p) => put_number_line(out, at, b"port ", wide(p)),
+        None => text.add(b"port none\n"),
+        Some(p) => text.add_number_line(b"port ", usize::from(p)),
     }
 }
 
-fn put_place_line(out: &mut [u8], at: usize, start: usize, end: usize) -> usize
-    requires start_le_end { start ≤ end }
-    requires end_bound { end < 100000 }
-    requires at_in_bounds { at + 20 ≤ length out.old }
-    ensures { Put out.old at (place_line start end) result out.new }
+fn add_place_line(text: &mut Text, start: usize, end: usize)
+    requires { start ≤ end }
+    ensures { Adds text.old (place_line start end) text.new }
 {
-    put_pair_line(out, at, b"payload ", start, b" ", end - start)
+    text.add_pair_line(b"payload ", start, b" ", end - start);
 }
 
-fn put_payload_line(out: &mut [u8], at: usize, payload: FrmPayload) -> usize
-    requires spans { Spans payload }
-    requires at_in_bounds { at + 20 ≤ length out.old }
-    ensures { Put out.old at (payload_line payload) result out.new }
+fn add_payload_line(text: &mut Text, payload: FrmPayload)
+    requires { Spans payload }
+    ensures { Adds text.old (payload_line payload) text.new }
 {
     match payload {
-        FrmPayload::Nothing => base::storing::put(out, at, b"payload none\n"),
-        FrmPayload::Data(start, end) => put_place_line(out, at, start, end),
-        FrmPayload::MacCommands(start, end) => put_place_line(out, at, start, end),
+        FrmPayload::Nothing => text.add(b"payload none\n"),
+        FrmPayload::Data(start, end) => add_place_line(text, start, end),
+        FrmPayload::MacCommands(start, end) => add_place_line(text, start, end),
     }
 }
 
-fn wide_fcnt(n: u16) -> usize
-    ensures { (result ≡ n) × (result < 65536) }
-{
-    n as usize
-}
+// The texts, each by what reading the frame gave.
 
-// The first four lines of a data frame, at the start of out.
-fn put_header(out: &mut [u8], frame: &[u8], d: DataFrame) -> usize
+fn add_data(text: &mut Text, frame: &[u8], d: DataFrame)
     requires fact { IsData frame.now }
     requires d_value { d ≡ data_of frame.now }
-    requires in_bounds { 128 ≤ length out.old }
-    ensures { Put out.old 0 (header_text frame.now d) result out.new }
+    ensures { Adds text.old (data_text frame.now d) text.new }
 {
-    let j = put_type_line(out, d.mtype);
-    let k = put_hex_line(out, j, b"addr ", frame, DEV_ADDR_AT, FCTRL_AT);
-    let l = put_hex_line(out, k, b"fctrl ", frame, FCTRL_AT, FCNT_AT);
-    put_number_line(out, l, b"fcnt ", wide_fcnt(d.fcnt))
+    text.add_number_line(b"type ", usize::from(d.mtype));
+    text.add_hex_line(b"addr ", &frame[DEV_ADDR_AT..FCTRL_AT]);
+    text.add_hex_line(b"fctrl ", &frame[FCTRL_AT..FCNT_AT]);
+    text.add_number_line(b"fcnt ", d.fcnt as usize);
+    text.add_number_line(b"fopts ", d.fopts_end - FOPTS_AT);
+    add_port_line(text, d.port);
+    add_payload_line(text, d.payload);
+    text.add_hex_line(b"mic ", &frame[d.mic..]);
 }
 
-// The other four.
-fn put_rest(out: &mut [u8], at: usize, frame: &[u8], d: DataFrame) -> usize
-    requires fact { IsData frame.now }
-    requires d_value { d ≡ data_of frame.now }
-    requires at_in_bounds { at + 56 ≤ length out.old }
-    ensures { Put out.old at (rest_text frame.now d) result out.new }
+fn add_join_request(text: &mut Text, frame: &[u8])
+    requires { length frame.now ≡ 23 }
+    ensures { Adds text.old (join_request_text frame.now) text.new }
 {
-    let j = put_number_line(out, at, b"fopts ", d.fopts_end - FOPTS_AT);
-    let port = d.port;
-    let k = put_port_line(out, j, port);
-    let payload = d.payload;
-    let l = put_payload_line(out, k, payload);
-    let mic = d.mic;
-    put_hex_line(out, l, b"mic ", frame, mic, frame.len())
+    text.add_number_line(b"type ", 0);
+    text.add_hex_line(b"app ", &frame[APP_EUI_AT..DEV_EUI_AT]);
+    text.add_hex_line(b"dev ", &frame[DEV_EUI_AT..DEV_NONCE_AT]);
+    text.add_hex_line(b"nonce ", &frame[DEV_NONCE_AT..REQUEST_MIC_AT]);
+    text.add_hex_line(b"mic ", &frame[REQUEST_MIC_AT..]);
 }
 
-fn put_data(out: &mut [u8], frame: &[u8], d: DataFrame) -> usize
-    requires fact { IsData frame.now }
-    requires d_value { d ≡ data_of frame.now }
-    requires in_bounds { 128 ≤ length out.old }
-    ensures { Put out.old 0 (data_text frame.now d) result out.new }
+fn add_join_accept(text: &mut Text, n: usize)
+    ensures { Adds text.old (join_accept_text n) text.new }
 {
-    let at = put_header(out, frame, d);
-    put_rest(out, at, frame, d)
+    text.add_number_line(b"type ", 1);
+    text.add_number_line(b"length ", n);
 }
 
-// AppEUI and DevEUI of a join-request.
-fn put_euis(out: &mut [u8], frame: &[u8]) -> usize
-    requires frame_len { length frame.now ≡ 23 }
-    requires in_bounds { 128 ≤ length out.old }
-    ensures { Put out.old 0 (euis_text frame.now) result out.new }
+fn add_refusal(text: &mut Text, refusal: Refusal)
+    ensures { Adds text.old (refusal_text refusal) text.new }
 {
-    let j = put_type_line(out, 0);
-    let k = put_hex_line(out, j, b"app ", frame, APP_EUI_AT, DEV_EUI_AT);
-    put_hex_line(out, k, b"dev ", frame, DEV_EUI_AT, DEV_NONCE_AT)
-}
-
-// Then DevNonce and MIC.
-fn put_join_request(out: &mut [u8], frame: &[u8]) -> usize
-    requires frame_len { length frame.now ≡ 23 }
-    requires in_bounds { 128 ≤ length out.old }
-    ensures { Put out.old 0 (join_request_text frame.now) result out.new }
-{
-    let j = put_euis(out, frame);
-    let k = put_hex_line(out, j, b"nonce ", frame, DEV_NONCE_AT, REQUEST_MIC_AT);
-    put_hex_line(out, k, b"mic ", frame, REQUEST_MIC_AT, JOIN_REQUEST_LEN)
-}
-
-fn put_join_accept(out: &mut [u8], n: usize) -> usize
-    requires n_bound { n < 100000 }
-    requires in_bounds { 128 ≤ length out.old }
-    ensures { Put out.old 0 (join_accept_text n) result out.new }
-{
-    let j = put_type_line(out, 1);
-    put_number_line(out, j, b"length ", n)
-}
-
-fn put_refusal(out: &mut [u8], refusal: Refusal) -> usize
-    requires { 128 ≤ length out.old }
-    ensures { Put out.old 0 (refusal_text refusal) result out.new }
-{
-    put_pair_line(
-        out,
-        0,
+    text.add_pair_line(
         b"refused ",
-        wide(refusal.number),
+        usize::from(refusal.number),
         b" at ",
         refusal.place,
-    )
+    );
 }
 
-// By what reading the frame gave.
-fn put_text(out: &mut [u8], frame: &[u8], reading: Reading) -> usize
-    requires reading_value { reading ≡ read_of frame.now }
-    requires in_bounds { 128 ≤ length out.old }
-    ensures { Put out.old 0 (text_of frame.now) result out.new }
+#[tactic(auto, unfolding(crate::specs::Text::text_of, crate::specs::Text::text_of_reading))]
+fn add_text(text: &mut Text, frame: &[u8])
+    ensures { Adds text.old (text_of frame.now) text.new }
 {
-    match reading {
-        Reading::JoinRequest => put_join_request(out, frame),
-        Reading::JoinAccept(n) => put_join_accept(out, n),
-        Reading::Data(d) => put_data(out, frame, d),
-        Reading::Refused(refusal) => put_refusal(out, refusal),
+    match read(frame) {
+        Ok(Frame::JoinRequest) => add_join_request(text, frame),
+        Ok(Frame::JoinAccept(n)) => add_join_accept(text, n),
+        Ok(Frame::Data(d)) => add_data(text, frame, d),
+        Err(refusal) => add_refusal(text, refusal),
     }
 }
 
 // An input that is too long is not read: only its length counts.
+#[tactic(auto, unfolding(crate::specs::Text::text_of_input))]
+fn add_input(text: &mut Text, start: &[u8], count: usize)
+    ensures { Adds text.old (text_of_input start.now count) text.new }
+{
+    if count > PHY_PAYLOAD_MAX_LEN {
+        return add_refusal(text, Refusal::at(FRAME_TOO_LONG, count));
+    }
+    add_text(text, start)
+}
+
+// Stores that text, and answers the place after it.
 fn put_input(out: &mut [u8], start: &[u8], count: usize) -> usize
     requires { 128 ≤ length out.old }
     ensures { Put out.old 0 (text_of_input start.now count) result out.new }
 {
-    if count > PHY_PAYLOAD_MAX_LEN {
-        return put_refusal(
-            out,
-            Refusal {
-                number: FRAME_TOO_LONG,
-                place: count,
-            },
-        );
-    }
-    let reading = read(start);
-    put_text(out, start, reading)
+    let mut text = Text::new();
+    add_input(&mut text, start, count);
+    base::storing::put(out, 0, text.as_slice())
 }
 
 // Writes the text of an input of count bytes to the start of out and answers its length. Up to 255 bytes the input is start; of
 // a longer one only the count is shown. An out that is shorter than TEXT_ROOM is refused by 7 and stays as it is.
-pub fn describe_input(start: &[u8], count: usize, out: &mut [u8]) -> Description
+#[tactic(auto, unfolding(crate::specs::Text::described_of, crate::specs::Text::described_in))]
+pub fn describe_input(start: &[u8], count: usize, out: &mut [u8]) -> Result<usize, Refusal>
     ensures value { result ≡ described_of (text_of_input start.now count) out.old }
     ensures out_after { out.new ≡ described_in (text_of_input start.now count) out.old }
 {
     if out.len() < TEXT_ROOM {
-        return Description {
-            refusal: Refusal {
-                number: BUFFER_TOO_SHORT,
-                place: 0,
-            },
-            length: 0,
-        };
+        return Err(Refusal::of(BUFFER_TOO_SHORT));
     }
-    let end = put_input(out, start, count);
-    Description {
-        refusal: Refusal {
-            number: 0,
-            place: 0,
-        },
-        length: end,
-    }
+    Ok(put_input(out, start, count))
 }
 
 // The text of a frame that is there as a whole, in the same way.
-pub fn describe(frame: &[u8], out: &mut [u8]) -> Description
+pub fn describe(frame: &[u8], out: &mut [u8]) -> Result<usize, Refusal>
     ensures value { result ≡ described_of (text_of frame.now) out.old }
     ensures out_after { out.new ≡ described_in (text_of frame.now) out.old }
 {

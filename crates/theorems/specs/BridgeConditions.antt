@@ -1,10 +1,10 @@
 -- The uses of a number that the functions for C add (docs/RULES.md, Refusals, From C), and number and place in an answer to C.
 -- Assumes nothing.
-use Rattle.std.specs.Prelude.{List, [], ◌∷◌, ℕ, ◌/◌, ◌%◌, ◌<◌}
-use Rattle.frame.specs.Refusals.{refusal}
+use Rattle.std.specs.Prelude.{List, Result, [], ◌∷◌, ℕ, ◌/◌, ◌%◌, ◌<◌}
+use Rattle.frame.specs.Refusals.{refusal_in}
 use Rattle.frame.specs.declared.refusals.Refusal.{Refusal}
 use Rattle.frame_build.specs.declared.creator.data_frame.DataParts.{DataParts}
-use Rattle.frame_c.specs.CAnswers.{or_short_of}
+use Rattle.frame_c.specs.CStored.{stored_in}
 use Rattle.theorems.specs.Exactly.{Condition, ◌when◌}
 use Rattle.theorems.specs.BuildingConditions.{data_conditions}
 
@@ -16,9 +16,9 @@ kind_conditions kind d commands body room = 4 when (kind < 2) ∷ 3 when (5 < ki
 abbrev pub room_conditions : ℕ → ℕ → List Condition
 room_conditions count room = 7 when (room < count) ∷ []
 
--- the refusal of a call that stores so many bytes, beside which the proved call gives r
-abbrev pub stored_refusal : Refusal → ℕ → ℕ → Refusal
-stored_refusal r count room = refusal (or_short_of r.number count room) r.place
+-- the refusal of a call that stores so many bytes of what the proved call found
+abbrev pub stored_refusal : {A : Type 0} → Result A Refusal → ℕ → ℕ → Refusal
+stored_refusal found count room = refusal_in (stored_in found count room)
 
 -- the number in an answer to C: its low byte
 abbrev pub number_in_c : ℕ → ℕ

@@ -1,15 +1,11 @@
 -- When building refuses, in the words of docs/RULES.md, Refusals: a proposition for each condition, and the order in which each
 -- call tests them.
 -- Assumes nothing.
-use Rattle.std.specs.Prelude.{◌≡◌, Bool, true, false, List, [], ◌∷◌, ℕ, ◌%◌, ◌<◌, length}
+use Rattle.std.specs.Prelude.{◌≡◌, Bool, true, false, List, [], ◌∷◌, ℕ, ◌%◌, ◌<◌, length, Err, None, Ok, Option, Result, Some}
 use Rattle.base.specs.Bytes.{at}
 use Rattle.frame.specs.Refusals.{refused}
 use Rattle.frame.specs.declared.refusals.Refusal.{Refusal}
-use Rattle.frame.specs.declared.parser.FPort.{FPort}
-use Rattle.frame.specs.declared.parser.FPort.TheVariants.{Absent, Port}
 use Rattle.frame_build.specs.DataBuilding.{data_length}
-use Rattle.frame_build.specs.declared.creator.Built.{Built}
-use Rattle.frame_build.specs.declared.creator.Built.TheVariants.{Frame, Refused}
 use Rattle.frame_build.specs.declared.creator.data_frame.DataParts.{DataParts}
 use Rattle.frame_build.specs.declared.creator.join.JoinAcceptParts.{JoinAcceptParts}
 use Rattle.theorems.specs.Exactly.{Exactly, Condition, ◌when◌, ◌unless◌, Due, NotOwn}
@@ -17,21 +13,21 @@ use Rattle.theorems.specs.Exactly.{Exactly, Condition, ◌when◌, ◌unless◌,
 -- ---- data frames
 
 -- the port is absent or not 0
-pub data NotPort0 (port : FPort) : Type 0 where
-  absent : port ≡ Absent → NotPort0 port
-  other : (p : ℕ) → port ≡ Port p → (p ≡ 0 → ⊥) → NotPort0 port
+pub data NotPort0 (port : Option ℕ) : Type 0 where
+  absent : port ≡ None → NotPort0 port
+  other : (p : ℕ) → port ≡ Some p → (p ≡ 0 → ⊥) → NotPort0 port
 
 -- 9: there are more than 15 bytes of commands, and the port is absent or not 0
-abbrev pub TooManyCommands : FPort → List ℕ → Type 0
+abbrev pub TooManyCommands : Option ℕ → List ℕ → Type 0
 TooManyCommands port commands = NotPort0 port × (15 < length commands)
 
 -- 10: the port is 0 and the payload is not empty
-abbrev pub PayloadOnPort0 : FPort → List ℕ → Type 0
-PayloadOnPort0 port body = (port ≡ Port 0) × (0 < length body)
+abbrev pub PayloadOnPort0 : Option ℕ → List ℕ → Type 0
+PayloadOnPort0 port body = (port ≡ Some 0) × (0 < length body)
 
 -- 11: there is no port and the payload is not empty
-abbrev pub PayloadWithoutPort : FPort → List ℕ → Type 0
-PayloadWithoutPort port body = (port ≡ Absent) × (0 < length body)
+abbrev pub PayloadWithoutPort : Option ℕ → List ℕ → Type 0
+PayloadWithoutPort port body = (port ≡ None) × (0 < length body)
 
 -- 7: the output has fewer than 255 bytes; 13: the low nibble of FCtrl is other than 0; 12: the frame has more than 255 bytes
 abbrev pub data_conditions : DataParts → List ℕ → List ℕ → ℕ → List Condition
@@ -72,10 +68,10 @@ accept_conditions j channels room =
 -- ---- what a building answers
 
 -- r is what a building answers whose frame has so many bytes, by its conditions
-pub record Answers (cs : List Condition) (long : ℕ) (r : Built) : Type 0 where
+pub record Answers (cs : List Condition) (long : ℕ) (r : Result ℕ Refusal) : Type 0 where
   -- each number exactly where it is due
-  pub refuses : (n : ℕ) → 0 < n → Exactly (r ≡ Refused (refused n)) (Due cs n)
+  pub refuses : (n : ℕ) → 0 < n → Exactly (r ≡ Err (refused n)) (Due cs n)
   -- the frame's length exactly where no condition holds
-  pub builds : Exactly (r ≡ Frame long) (Due cs 0)
+  pub builds : Exactly (r ≡ Ok long) (Due cs 0)
   -- and no other refusal
-  pub no_other : (q : Refusal) → NotOwn cs q → r ≡ Refused q → ⊥
+  pub no_other : (q : Refusal) → NotOwn cs q → r ≡ Err q → ⊥

@@ -1,13 +1,12 @@
 -- "Reading" in the order of a call's tests (docs/RULES.md, Refusals): a frame that the reader refuses keeps the reader's refusal,
 -- number and place, and a frame that it accepts but that is of another type than the call needs gives 4 at place 0.
 -- Assumes nothing.
-use Rattle.std.specs.Prelude.{◌≡◌, Bool, true, not, List, ℕ, T, eqb, length}
+use Rattle.std.specs.Prelude.{◌≡◌, Bool, true, not, List, ℕ, T, eqb, length, Err}
 use Rattle.base.specs.Bytes.{pick}
 use Rattle.frame.specs.Conditions.{IsJoinRequest, IsJoinAccept, IsData, Passes}
 use Rattle.frame.specs.Reading.{read_of}
 use Rattle.frame.specs.Refusals.{refused}
 use Rattle.frame.specs.declared.refusals.Refusal.{Refusal}
-use Rattle.frame.specs.declared.parser.Reading.TheVariants.{Refused}
 use Rattle.theorems.specs.Exactly.{Exactly, Condition, Due, NotOwn}
 
 -- the frame that a call needs
@@ -24,7 +23,7 @@ Is data_frame f = IsData f
 
 -- reading gives the refusal r
 pub data ByReading (k : Needs) (f : List ℕ) (r : Refusal) : Type 0 where
-  keeps : read_of f ≡ Refused r → ByReading k f r
+  keeps : read_of f ≡ Err r → ByReading k f r
   other : Passes f → (Is k f → ⊥) → r ≡ refused 4 → ByReading k f r
 
 -- the numbers that reading may give

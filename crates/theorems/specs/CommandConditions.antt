@@ -1,22 +1,18 @@
 -- When reading and writing a MAC command refuse, in the words of docs/RULES.md, Refusals: a proposition for each condition, the
 -- order in which each call tests them, and what each answers by it.
 -- Assumes nothing.
-use Rattle.std.specs.Prelude.{◌≡◌, Bool, true, List, [], ◌∷◌, ℕ, ◌+◌, ◌^◌, ◌≤◌, ◌<◌, eqb, ℤ, pos, negsuc, length}
+use Rattle.mac_commands.specs.declared.in_frame.CommandLists.{CommandLists}
+use Rattle.std.specs.Prelude.{◌≡◌, Bool, true, List, [], ◌∷◌, ℕ, ◌+◌, ◌^◌, ◌≤◌, ◌<◌, eqb, ℤ, pos, negsuc, length, Err, None, Ok, Result, Some}
 use Rattle.std.specs.Int.Signed.{lt_z}
 use Rattle.base.specs.Bytes.{pick, at, part}
 use Rattle.frame.specs.Reading.{data_of}
-use Rattle.frame.specs.Refusals.{refusal, refused, not_refused}
+use Rattle.frame.specs.Refusals.{refusal, refused}
 use Rattle.frame.specs.declared.refusals.Refusal.{Refusal}
 use Rattle.mac_commands.specs.Commands.{command_of}
 use Rattle.mac_commands.specs.InFrame.{lists_of}
 use Rattle.mac_commands.specs.Layout.{count_in_row, width_at, fields_of, low_first, row, row_of, size_of}
-use Rattle.mac_commands.specs.declared.in_frame.InFrame.{InFrame}
-use Rattle.mac_commands.specs.declared.in_frame.InFrame.TheVariants.{Lists, Refused as NoLists}
 use Rattle.mac_commands.specs.declared.maccommands.Command.{Command}
-use Rattle.mac_commands.specs.declared.maccommands.Step.{Step}
-use Rattle.mac_commands.specs.declared.maccommands.Step.TheVariants.{Found, End, Refused}
-use Rattle.mac_commands.specs.declared.maccommandcreator.Written.{Written}
-use Rattle.mac_commands.specs.declared.maccommandcreator.Written.TheVariants.{Upto, Refused as Unwritten}
+use Rattle.mac_commands.specs.Commands.{Step}
 use Rattle.theorems.specs.Exactly.{Exactly, Condition, ◌when◌, Due, NotOwn}
 
 -- ---- identifiers: 2 to 10 are of the family, every other is unknown
@@ -60,15 +56,15 @@ command_at up s i =
 -- x is what a step answers
 pub record Steps (up : Bool) (s : List ℕ) (i : ℕ) (x : Step) : Type 0 where
   -- 16 and 17 exactly where they are due, and at no other place than i
-  pub unknown : (p : ℕ) → Exactly (x ≡ Refused (refusal 16 p)) ((p ≡ i) × UnknownAt s i)
-  pub cut_short : (p : ℕ) → Exactly (x ≡ Refused (refusal 17 p)) ((p ≡ i) × CutShortAt up s i)
+  pub unknown : (p : ℕ) → Exactly (x ≡ Err (refusal 16 p)) ((p ≡ i) × UnknownAt s i)
+  pub cut_short : (p : ℕ) → Exactly (x ≡ Err (refusal 17 p)) ((p ≡ i) × CutShortAt up s i)
   -- and no other number
-  pub no_other : (r : Refusal) → (r.number ≡ 16 → ⊥) → (r.number ≡ 17 → ⊥) → x ≡ Refused r → ⊥
+  pub no_other : (r : Refusal) → (r.number ≡ 16 → ⊥) → (r.number ≡ 17 → ⊥) → x ≡ Err r → ⊥
   -- the end exactly at or past the length
-  pub ends : Exactly (x ≡ End) (length s ≤ i)
+  pub ends : Exactly (x ≡ (Ok None)) (length s ≤ i)
   -- a command exactly where it is whole, this one alone, and the place past it
   pub finds : (c : Command) (n : ℕ)
-      → Exactly (x ≡ Found c n) (WholeAt up s i × ((c ≡ command_at up s i) × (n ≡ i + 1 + size_at up s i)))
+      → Exactly (x ≡ Ok (Some (c, n))) (WholeAt up s i × ((c ≡ command_at up s i) × (n ≡ i + 1 + size_at up s i)))
 
 -- ---- writing values xs of the row r into n bytes, from place i on
 
@@ -89,33 +85,24 @@ abbrev pub field_conditions : Bool → ℕ → List ℕ → ℕ → ℕ → List
 field_conditions up id xs n i = 16 when Unknown id ∷ row_conditions (row_of up id) xs n i
 
 -- w is what a writing answers that goes by these conditions and ends at place next
-pub record Writes (cs : List Condition) (next : ℕ) (w : Written) : Type 0 where
+pub record Writes (cs : List Condition) (next : ℕ) (w : Result ℕ Refusal) : Type 0 where
   -- each number, at place 0, exactly where it is due
-  pub refuses : (n : ℕ) → 0 < n → Exactly (w ≡ Unwritten (refused n)) (Due cs n)
+  pub refuses : (n : ℕ) → 0 < n → Exactly (w ≡ Err (refused n)) (Due cs n)
   -- the place past the command exactly where no condition holds, and no other place
-  pub writes : (m : ℕ) → Exactly (w ≡ Upto m) ((m ≡ next) × Due cs 0)
+  pub writes : (m : ℕ) → Exactly (w ≡ Ok m) ((m ≡ next) × Due cs 0)
   -- and no other refusal
-  pub no_other : (q : Refusal) → NotOwn cs q → w ≡ Unwritten q → ⊥
-
--- its refusal, which is none where the command was written
-abbrev pub written_refusal : Written → Refusal
-written_refusal (Upto m) = not_refused
-written_refusal (Unwritten q) = q
+  pub no_other : (q : Refusal) → NotOwn cs q → w ≡ Err q → ⊥
 
 -- what it answers by its own number, 0 where it writes
-abbrev pub written_of : ℕ → ℕ → Written
-written_of next n = pick (eqb n 0) (Upto next) (Unwritten (refused n))
+abbrev pub written_of : ℕ → ℕ → Result ℕ Refusal
+written_of next n = pick (eqb n 0) (Ok next) (Err (refused n))
 
 -- 18 of DevStatusAns: the margin is outside -32 to 31
 pub data OutsideMargin (margin : ℤ) : Type 0 where
   under : lt_z margin (negsuc 31) ≡ true → OutsideMargin margin
   over : lt_z (pos 31) margin ≡ true → OutsideMargin margin
 
--- ---- the lists of commands of the frame f: what is answered by a number, 0 where f is a data frame
+-- ---- the lists of commands of the frame f: what is Ok by a number, 0 where f is a data frame
 
-abbrev pub lists_answer : List ℕ → ℕ → InFrame
-lists_answer f n = pick (eqb n 0) (Lists (lists_of (data_of f))) (NoLists (refused n))
-
-abbrev pub lists_refusal : InFrame → Refusal
-lists_refusal (Lists l) = not_refused
-lists_refusal (NoLists r) = r
+abbrev pub lists_answer : List ℕ → ℕ → Result CommandLists Refusal
+lists_answer f n = pick (eqb n 0) (Ok (lists_of (data_of f))) (Err (refused n))

@@ -1,11 +1,11 @@
 -- When writing a MAC command of six numbers refuses, in the words of docs/RULES.md, Refusals, From C: a proposition for each
 -- condition, and their order. The first number is the identifier; the others are the values, of which the margin has a sign.
 -- Assumes nothing.
-use Rattle.std.specs.Prelude.{◌≡◌, Bool, true, false, List, [], ◌∷◌, ℕ, suc, ◌^◌, ◌<◌, ℤ, pos}
+use Rattle.frame.specs.declared.refusals.Refusal.{Refusal}
+use Rattle.std.specs.Prelude.{◌≡◌, Bool, true, false, List, [], ◌∷◌, ℕ, suc, ◌^◌, ◌<◌, ℤ, pos, Result}
 use Rattle.std.specs.Int.Signed.{lt_z}
 use Rattle.mac_commands.specs.Commands.{fields_written}
 use Rattle.mac_commands.specs.Layout.{count_in_row, width_at, row, row_of}
-use Rattle.mac_commands.specs.declared.maccommandcreator.Written.{Written}
 use Rattle.command_numbers.specs.Numbers.{number, id_given, values_given}
 use Rattle.theorems.specs.Exactly.{Condition, ◌when◌}
 use Rattle.theorems.specs.CommandConditions.{OutsideMargin, NoRoom}
@@ -38,5 +38,5 @@ number_conditions up zs n i =
     ∷ []
 
 -- what the call answers, into n bytes from place i on
-abbrev pub numbers_written : Bool → List ℤ → ℕ → ℕ → Written
+abbrev pub numbers_written : Bool → List ℤ → ℕ → ℕ → Result ℕ Refusal
 numbers_written up zs n i = fields_written up (id_given zs) (values_given up zs) n i

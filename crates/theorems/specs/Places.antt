@@ -2,19 +2,18 @@
 -- refusal that it answers, and the frame that it reads first, if it reads one. A step of reading MAC commands is not among them:
 -- its refusal is at the place of the step, as `Steps` of `CommandConditions` says.
 -- Assumes nothing.
-use Rattle.std.specs.Prelude.{◌≡◌, Bool, List, ℕ, ℤ, length}
+use Rattle.frame.specs.Refusals.{refusal_in}
+use Rattle.std.specs.Prelude.{◌≡◌, Bool, List, ℕ, ℤ, length, Err, Option}
 use Rattle.frame.specs.Reading.{read_of}
 use Rattle.frame.specs.ReadingNumbers.{number_of, place_of, values_of}
 use Rattle.frame.specs.Refusals.{refusal}
 use Rattle.frame.specs.JoinFields.{join_request_fields_of, join_accept_fields_of}
 use Rattle.frame.specs.declared.refusals.Refusal.{Refusal}
-use Rattle.frame.specs.declared.keys.MaybeKey.{MaybeKey}
-use Rattle.frame.specs.declared.parser.Reading.TheVariants.{Refused}
-use Rattle.frame_opening.specs.FrameOpening.{test_refusal, join_request_test, join_accept_test, data_test_of, opening_refusal, data_opened}
+use Rattle.frame_opening.specs.FrameOpening.{join_request_test, join_accept_test, data_test_of, data_opened}
 use Rattle.frame_opening.specs.CheckedOpening.{data_opened_checked, accept_opened_checked}
 use Rattle.frame_opening.specs.JoinAcceptOpening.{accept_opened}
 use Rattle.frame_opening.specs.SessionKeys.{session_keys_of}
-use Rattle.frame_build.specs.DataFrames.{built_of, built_refusal, data_frame_of}
+use Rattle.frame_build.specs.DataFrames.{built_of, data_frame_of}
 use Rattle.frame_build.specs.DataBuilding.{data_refusal_of}
 use Rattle.frame_build.specs.JoinBuilding.{join_request_refusal, join_accept_refusal_of}
 use Rattle.frame_build.specs.JoinFrames.{join_request_of, join_accept_of}
@@ -33,7 +32,6 @@ use Rattle.mac_commands.specs.declared.maccommands.Command.{Command}
 use Rattle.show_text.specs.Text.{text_of, text_of_input, described_of}
 use Rattle.frame_c.specs.CGiven.{data_refused}
 use Rattle.theorems.specs.BridgeConditions.{stored_refusal}
-use Rattle.theorems.specs.CommandConditions.{written_refusal, lists_refusal}
 use Rattle.theorems.specs.NumberConditions.{numbers_written}
 
 -- ---- calls that read the frame f first
@@ -54,8 +52,8 @@ pub data Reads (f : List ℕ) : Type 0 where
   accept_mic : (key : List ℕ) → Reads f
   data_mic : (key : List ℕ) (counter : ℕ) → Reads f
   -- openings, plain and checked
-  decrypt_data : (nwk app : MaybeKey) (counter : ℕ) → Reads f
-  decrypt_data_checked : (nwk : List ℕ) (app : MaybeKey) (counter : ℕ) → Reads f
+  decrypt_data : (nwk app : Option (List ℕ)) (counter : ℕ) → Reads f
+  decrypt_data_checked : (nwk : List ℕ) (app : Option (List ℕ)) (counter : ℕ) → Reads f
   decrypt_accept : (key : List ℕ) → Reads f
   decrypt_accept_checked : (key : List ℕ) → Reads f
   -- opening for amendments, also into a buffer that holds it, and the call on a lent frame
@@ -68,22 +66,22 @@ pub data Reads (f : List ℕ) : Type 0 where
 abbrev pub reads_refusal : (f : List ℕ) → Reads f → Refusal
 reads_refusal f read = refusal (number_of (read_of f)) (place_of (read_of f))
 reads_refusal f view = refusal (values_of (read_of f)).number (values_of (read_of f)).place
-reads_refusal f request_fields = (join_request_fields_of f).refusal
-reads_refusal f accept_fields = (join_accept_fields_of f).refusal
-reads_refusal f (session_keys key dev_nonce_of) = (session_keys_of key dev_nonce_of f).refusal
-reads_refusal f (request_stored room) = stored_refusal (join_request_fields_of f).refusal 22 room
-reads_refusal f (accept_stored room) = stored_refusal (join_accept_fields_of f).refusal 42 room
-reads_refusal f (keys_stored key dev_nonce_of room) = stored_refusal (session_keys_of key dev_nonce_of f).refusal 32 room
-reads_refusal f (request_mic key) = test_refusal (join_request_test key f)
-reads_refusal f (accept_mic key) = test_refusal (join_accept_test key f)
-reads_refusal f (data_mic key counter) = test_refusal (data_test_of key counter f)
-reads_refusal f (decrypt_data nwk app counter) = opening_refusal (data_opened nwk app counter f).answer
-reads_refusal f (decrypt_data_checked nwk app counter) = opening_refusal (data_opened_checked nwk app counter f).answer
-reads_refusal f (decrypt_accept key) = opening_refusal (accept_opened key f).answer
-reads_refusal f (decrypt_accept_checked key) = opening_refusal (accept_opened_checked key f).answer
-reads_refusal f (open_frame nwk app counter) = (open_of f nwk app counter).refusal
-reads_refusal f (amend_frame nwk app counter list) = amend_frame_of f nwk app counter list
-reads_refusal f command_lists = lists_refusal (in_frame_of f)
+reads_refusal f request_fields = refusal_in (join_request_fields_of f)
+reads_refusal f accept_fields = refusal_in (join_accept_fields_of f)
+reads_refusal f (session_keys key dev_nonce_of) = refusal_in (session_keys_of key dev_nonce_of f)
+reads_refusal f (request_stored room) = stored_refusal (join_request_fields_of f) 22 room
+reads_refusal f (accept_stored room) = stored_refusal (join_accept_fields_of f) 42 room
+reads_refusal f (keys_stored key dev_nonce_of room) = stored_refusal (session_keys_of key dev_nonce_of f) 32 room
+reads_refusal f (request_mic key) = refusal_in (join_request_test key f)
+reads_refusal f (accept_mic key) = refusal_in (join_accept_test key f)
+reads_refusal f (data_mic key counter) = refusal_in (data_test_of key counter f)
+reads_refusal f (decrypt_data nwk app counter) = refusal_in (data_opened nwk app counter f).answer
+reads_refusal f (decrypt_data_checked nwk app counter) = refusal_in (data_opened_checked nwk app counter f).answer
+reads_refusal f (decrypt_accept key) = refusal_in (accept_opened key f).answer
+reads_refusal f (decrypt_accept_checked key) = refusal_in (accept_opened_checked key f).answer
+reads_refusal f (open_frame nwk app counter) = refusal_in (open_of f nwk app counter)
+reads_refusal f (amend_frame nwk app counter list) = refusal_in (amend_frame_of f nwk app counter list)
+reads_refusal f command_lists = refusal_in (in_frame_of f)
 
 -- ---- calls that read no frame, or to which a frame that is refused is one more input
 
@@ -106,21 +104,21 @@ pub data Others : Type 0 where
   describe_input : (start : List ℕ) (n : ℕ) (out : List ℕ) → Others
 
 abbrev pub others_refusal : Others → Refusal
-others_refusal (amend s offset value) = (amend_of s offset value).refusal
-others_refusal (amend_list s list) = (amend_list_of s list).refusal
-others_refusal (take_out s room) = (taken_of s room).refusal
+others_refusal (amend s offset value) = refusal_in (amend_of s offset value).answer
+others_refusal (amend_list s list) = refusal_in (amend_list_of s list).answer
+others_refusal (take_out s room) = refusal_in (taken_of s room)
 others_refusal (build_data nwk app d commands body room) =
-    built_refusal (built_of (data_refusal_of d commands body room) (length (data_frame_of nwk app d commands body)))
+    refusal_in (built_of (data_refusal_of d commands body room) (length (data_frame_of nwk app d commands body)))
 others_refusal (build_kind kind nwk app d commands body room) =
-    built_refusal (built_of (data_refused kind d commands body room) (length (data_frame_of nwk app d commands body)))
-others_refusal (build_request key j room) = built_refusal (built_of (join_request_refusal room) (length (join_request_of key j)))
+    refusal_in (built_of (data_refused kind d commands body room) (length (data_frame_of nwk app d commands body)))
+others_refusal (build_request key j room) = refusal_in (built_of (join_request_refusal room) (length (join_request_of key j)))
 others_refusal (build_accept key j channels room) =
-    built_refusal (built_of (join_accept_refusal_of j channels room) (length (join_accept_of key j channels)))
-others_refusal (write_command c room place) = written_refusal (command_written c room place)
-others_refusal (write_fields up id values room place) = written_refusal (fields_written up id values room place)
-others_refusal (write_numbers up numbers room place) = written_refusal (numbers_written up numbers room place)
-others_refusal (describe f out) = (described_of (text_of f) out).refusal
-others_refusal (describe_input start n out) = (described_of (text_of_input start n) out).refusal
+    refusal_in (built_of (join_accept_refusal_of j channels room) (length (join_accept_of key j channels)))
+others_refusal (write_command c room place) = refusal_in (command_written c room place)
+others_refusal (write_fields up id values room place) = refusal_in (fields_written up id values room place)
+others_refusal (write_numbers up numbers room place) = refusal_in (numbers_written up numbers room place)
+others_refusal (describe f out) = refusal_in (described_of (text_of f) out)
+others_refusal (describe_input start n out) = refusal_in (described_of (text_of_input start n) out)
 
 -- ---- of every call
 
@@ -134,7 +132,7 @@ refusal_of (others c) = others_refusal c
 
 -- the reader refuses, by r, the frame that the call reads first; never where it reads none
 abbrev pub ReaderRefuses : Call → Refusal → Type 0
-ReaderRefuses (reads f c) r = read_of f ≡ Refused r
+ReaderRefuses (reads f c) r = read_of f ≡ Err r
 ReaderRefuses (others c) r = ⊥
 
 -- the refusal r of a call, where the reader may refuse the call's frame, has its place from the reader

@@ -1,14 +1,15 @@
 -- The versions that docs/RULES.md names for trial under "What each call is held to", and what each would have to meet.
 -- Assumes nothing.
-use Rattle.std.specs.Prelude.{◌≡◌, List, [], ◌∷◌, ℕ, ◌+◌, length, take, set}
+use Rattle.frame.specs.declared.refusals.Refusal.{Refusal}
+use Rattle.amend.specs.OpenFrame.{state_in}
+use Rattle.frame.specs.Refusals.{refusal_in}
+use Rattle.std.specs.Prelude.{◌≡◌, List, [], ◌∷◌, ℕ, ◌+◌, length, take, set, Ok, Result}
 use Rattle.frame.specs.Layout.{payload_start_of, mic_of}
 use Rattle.frame.specs.ReadingNumbers.{number_of, values_of}
 use Rattle.frame.specs.Reading.{read_of}
-use Rattle.frame.specs.declared.parser.Reading.{Reading}
+use Rattle.frame.specs.Reading.{Reading}
 use Rattle.frame_build.specs.DataBuilding.{data_refusal_of}
 use Rattle.frame_build.specs.DataFrames.{built_of, data_frame_of}
-use Rattle.frame_build.specs.declared.creator.Built.{Built}
-use Rattle.frame_build.specs.declared.creator.Built.TheVariants.{Frame}
 use Rattle.frame_build.specs.declared.creator.data_frame.DataParts.{DataParts}
 use Rattle.amend.specs.Amending.{open_state, encrypted_byte, amend_of}
 use Rattle.amend.specs.AmendmentLists.{Amendment, Stands}
@@ -31,7 +32,7 @@ SameForAll read = (f g : List ℕ) → number_of (read_of f) ≡ 0 → number_of
 -- ---- builders: of both keys, the fields, commands, payload and the room for the frame
 
 abbrev pub Builder : Type 0
-Builder = List ℕ → List ℕ → DataParts → List ℕ → List ℕ → ℕ → Built
+Builder = List ℕ → List ℕ → DataParts → List ℕ → List ℕ → ℕ → Result ℕ Refusal
 
 abbrev pub BuildsData : Builder → Type 0
 BuildsData build =
@@ -43,14 +44,14 @@ BuildsData build =
 abbrev pub Reports : ℕ → Builder → Type 0
 Reports n build =
     (nwk app : List ℕ) (d : DataParts) (commands payload : List ℕ) (room : ℕ) → data_refusal_of d commands payload room ≡ 0
-    → build nwk app d commands payload room ≡ Frame n
+    → build nwk app d commands payload room ≡ Ok n
 
 -- ---- amendments: the state after a list
 
 abbrev pub Amends : (Open → List Amendment → Open) → Type 0
 Amends amend =
-    (f nwk app : List ℕ) (counter : ℕ) → (open_of f nwk app counter).refusal.number ≡ 0 → (list : List Amendment)
-    → Stands f nwk app counter list (amend (open_of f nwk app counter).state list)
+    (f nwk app : List ℕ) (counter : ℕ) → (refusal_in (open_of f nwk app counter)).number ≡ 0 → (list : List Amendment)
+    → Stands f nwk app counter list (amend (state_in (open_of f nwk app counter)) list)
 
 -- one that returns its state untouched
 abbrev pub untouched : Open → List Amendment → Open

@@ -1,8 +1,6 @@
 // The published vectors of AES-128, and two long chains whose last blocks come from OpenSSL (docs/VECTORS.md).
-use crate::report;
-use crate::report::Tally;
-use crate::sample::{KEY, MESSAGE};
-use base::storing::block_at;
+use crate::report::Report;
+use crate::sample::{Block, KEY, MESSAGE};
 use std::io;
 use std::io::Write;
 
@@ -22,24 +20,24 @@ const WORDS_A1: [u8; 176] = [
 ];
 
 // FIPS 197, Appendix B.
-const INPUT_B: [u8; 16] = [
+const INPUT_B: Block = [
     0x32, 0x43, 0xf6, 0xa8, 0x88, 0x5a, 0x30, 0x8d, 0x31, 0x31, 0x98, 0xa2, 0xe0, 0x37, 0x07, 0x34,
 ];
 
-const OUTPUT_B: [u8; 16] = [
+const OUTPUT_B: Block = [
     0x39, 0x25, 0x84, 0x1d, 0x02, 0xdc, 0x09, 0xfb, 0xdc, 0x11, 0x85, 0x97, 0x19, 0x6a, 0x0b, 0x32,
 ];
 
 // FIPS 197, C.1.
-const KEY_C1: [u8; 16] = [
+const KEY_C1: Block = [
     0x00, 0x01, 0x02, 0x03, 0x04, 0x05, 0x06, 0x07, 0x08, 0x09, 0x0a, 0x0b, 0x0c, 0x0d, 0x0e, 0x0f,
 ];
 
-const PLAIN_C1: [u8; 16] = [
+const PLAIN_C1: Block = [
     0x00, 0x11, 0x22, 0x33, 0x44, 0x55, 0x66, 0x77, 0x88, 0x99, 0xaa, 0xbb, 0xcc, 0xdd, 0xee, 0xff,
 ];
 
-const CIPHER_C1: [u8; 16] = [
+const CIPHER_C1: Block = [
     0x69, 0xc4, 0xe0, 0xd8, 0x6a, 0x7b, 0x04, 0x30, 0xd8, 0xcd, 0xb7, 0x80, 0x70, 0xb4, 0xc5, 0x5a,
 ];
 
@@ -52,135 +50,74 @@ const ENCIPHERED: [u8; 64] = [
 ];
 
 // The key and the plaintext of C.1, worked on 10,000 times in each direction.
-const ENCRYPTED_10000: [u8; 16] = [
+const ENCRYPTED_10000: Block = [
     0xe8, 0x51, 0x2f, 0xb5, 0x16, 0xff, 0x34, 0x8e, 0x33, 0x6e, 0x54, 0x08, 0x68, 0xfc, 0x0b, 0xad,
 ];
 
-const DECRYPTED_10000: [u8; 16] = [
+const DECRYPTED_10000: Block = [
     0x2a, 0x37, 0xcb, 0x18, 0x92, 0xc7, 0x7e, 0x69, 0xc6, 0x6c, 0x6f, 0x20, 0x50, 0x4d, 0xae, 0x12,
 ];
 
-fn encrypts<W: Write>(
-    out: &mut W,
-    t: Tally,
-    name: &[u8],
-    key: [u8; 16],
-    plain: [u8; 16],
-    want: [u8; 16],
-) -> io::Result<Tally> {
-    report::compared(out, t, name, aes::encrypt(key, plain), want)
+fn schedule<W: Write>(report: &mut Report<W>) -> io::Result<()> {
+    let words = aes::key_expansion::expand(KEY);
+    report.tell("FIPS 197 A.1, 44 words", words == WORDS_A1)
 }
 
-fn decrypts<W: Write>(
-    out: &mut W,
-    t: Tally,
-    name: &[u8],
-    key: [u8; 16],
-    enciphered: [u8; 16],
-    want: [u8; 16],
-) -> io::Result<Tally> {
-    report::compared(out, t, name, aes::decrypt(key, enciphered), want)
-}
-
-fn encrypted_again(key: [u8; 16], block: [u8; 16], times: usize) -> [u8; 16] {
-    let schedule = aes::key_expansion::expand(key);
-    let mut b = block;
-    for _ in 0..times {
-        let next = aes::encrypt_under(&schedule, b);
-        b = next;
-    }
-    b
-}
-
-fn decrypted_again(key: [u8; 16], block: [u8; 16], times: usize) -> [u8; 16] {
-    let schedule = aes::key_expansion::expand(key);
-    let mut b = block;
-    for _ in 0..times {
-        let next = aes::decrypt_under(&schedule, b);
-        b = next;
-    }
-    b
-}
-
-fn schedule<W: Write>(out: &mut W, t: Tally) -> io::Result<Tally> {
-    let got = aes::key_expansion::expand(KEY);
-    report::told(out, t, b"FIPS 197 A.1, 44 words", got == WORDS_A1)
-}
-
-fn fips197<W: Write>(out: &mut W, t: Tally) -> io::Result<Tally> {
-    let t = encrypts(out, t, b"FIPS 197 B, encrypted", KEY, INPUT_B, OUTPUT_B)?;
-    let t = decrypts(out, t, b"FIPS 197 B, decrypted", KEY, OUTPUT_B, INPUT_B)?;
-    let t = encrypts(
-        out,
-        t,
-        b"FIPS 197 C.1, encrypted",
-        KEY_C1,
-        PLAIN_C1,
-        CIPHER_C1,
+// A published block, and what it is enciphered to, in both directions.
+fn both_ways<W: Write>(
+    report: &mut Report<W>,
+    name: &str,
+    key: Block,
+    clear: Block,
+    enciphered: Block,
+) -> io::Result<()> {
+    report.tell(
+        format_args!("{name}, encrypted"),
+        aes::encrypt(key, clear) == enciphered,
     )?;
-    decrypts(
-        out,
-        t,
-        b"FIPS 197 C.1, decrypted",
-        KEY_C1,
-        CIPHER_C1,
-        PLAIN_C1,
+    report.tell(
+        format_args!("{name}, decrypted"),
+        aes::decrypt(key, enciphered) == clear,
     )
 }
 
-// The message's block from a place on, and the one that it is enciphered to, which stands at the same place.
-fn encrypts_at<W: Write>(out: &mut W, t: Tally, name: &[u8], place: usize) -> io::Result<Tally> {
-    let clear = MESSAGE;
-    let enciphered = ENCIPHERED;
-    encrypts(
-        out,
-        t,
-        name,
-        KEY,
-        block_at(&clear, place),
-        block_at(&enciphered, place),
-    )
+// The blocks of the message in one direction.
+fn sp800_38a<W: Write, C: Fn(Block, Block) -> Block>(
+    report: &mut Report<W>,
+    section: &str,
+    given: &[u8],
+    wanted: &[u8],
+    cipher: C,
+) -> io::Result<()>
+    requires { C.IsAlwaysCallable cipher }
+{
+    let (given, _) = given.as_chunks::<16>();
+    let (wanted, _) = wanted.as_chunks::<16>();
+    for (n, (block, want)) in (1..5).zip(given.iter().zip(wanted)) {
+        report.tell(
+            format_args!("SP 800-38A {section}, block {n}"),
+            cipher(KEY, *block) == *want,
+        )?;
+    }
+    Ok(())
 }
 
-fn decrypts_at<W: Write>(out: &mut W, t: Tally, name: &[u8], place: usize) -> io::Result<Tally> {
-    let clear = MESSAGE;
-    let enciphered = ENCIPHERED;
-    decrypts(
-        out,
-        t,
-        name,
-        KEY,
-        block_at(&enciphered, place),
-        block_at(&clear, place),
-    )
-}
-
-fn sp800_38a_encrypted<W: Write>(out: &mut W, t: Tally) -> io::Result<Tally> {
-    let t = encrypts_at(out, t, b"SP 800-38A F.1.1, block 1", 0)?;
-    let t = encrypts_at(out, t, b"SP 800-38A F.1.1, block 2", 16)?;
-    let t = encrypts_at(out, t, b"SP 800-38A F.1.1, block 3", 32)?;
-    encrypts_at(out, t, b"SP 800-38A F.1.1, block 4", 48)
-}
-
-fn sp800_38a_decrypted<W: Write>(out: &mut W, t: Tally) -> io::Result<Tally> {
-    let t = decrypts_at(out, t, b"SP 800-38A F.1.2, block 1", 0)?;
-    let t = decrypts_at(out, t, b"SP 800-38A F.1.2, block 2", 16)?;
-    let t = decrypts_at(out, t, b"SP 800-38A F.1.2, block 3", 32)?;
-    decrypts_at(out, t, b"SP 800-38A F.1.2, block 4", 48)
-}
-
-fn chains<W: Write>(out: &mut W, t: Tally) -> io::Result<Tally> {
-    let e = encrypted_again(KEY_C1, PLAIN_C1, 10000);
-    let t = report::compared(out, t, b"10000 encryptions", e, ENCRYPTED_10000)?;
-    let d = decrypted_again(KEY_C1, PLAIN_C1, 10000);
-    report::compared(out, t, b"10000 decryptions", d, DECRYPTED_10000)
+// The block of C.1, worked on again and again under one schedule.
+fn chains<W: Write>(report: &mut Report<W>) -> io::Result<()> {
+    let schedule = aes::key_expansion::expand(KEY_C1);
+    let enciphered = (0..10000).fold(PLAIN_C1, |b, _| aes::encrypt_under(&schedule, b));
+    report.tell("10000 encryptions", enciphered == ENCRYPTED_10000)?;
+    let clear = (0..10000).fold(PLAIN_C1, |b, _| aes::decrypt_under(&schedule, b));
+    report.tell("10000 decryptions", clear == DECRYPTED_10000)
 }
 
 pub(crate) fn all<W: Write>(out: &mut W) -> io::Result<()> {
-    let t = schedule(out, report::none())?;
-    let t = fips197(out, t)?;
-    let t = sp800_38a_encrypted(out, t)?;
-    let t = sp800_38a_decrypted(out, t)?;
-    let t = chains(out, t)?;
-    report::closed(out, t)
+    let mut report = Report::new(out);
+    schedule(&mut report)?;
+    both_ways(&mut report, "FIPS 197 B", KEY, INPUT_B, OUTPUT_B)?;
+    both_ways(&mut report, "FIPS 197 C.1", KEY_C1, PLAIN_C1, CIPHER_C1)?;
+    sp800_38a(&mut report, "F.1.1", &MESSAGE, &ENCIPHERED, aes::encrypt)?;
+    sp800_38a(&mut report, "F.1.2", &ENCIPHERED, &MESSAGE, aes::decrypt)?;
+    chains(&mut report)?;
+    report.close()
 }

@@ -1,70 +1,36 @@
 // What the program writes of its vectors, and how it counts them.
+use std::fmt::Display;
 use std::io;
 use std::io::Write;
 
-#[derive(Clone, Copy)]
-pub(crate) struct Tally {
-    pub vectors: u64,
-    pub same: u64,
+// The lines on vectors, and how many vectors there were and how many came out as published.
+#[derive(Drop)]
+pub(crate) struct Report<'a, W> {
+    out: &'a mut W,
+    vectors: u64,
+    same: u64,
 }
 
-pub(crate) fn none() -> Tally {
-    Tally {
-        vectors: 0,
-        same: 0,
+impl<'a, W: Write> Report<'a, W> {
+    pub(crate) fn new(out: &'a mut W) -> Self {
+        Report {
+            out,
+            vectors: 0,
+            same: 0,
+        }
     }
-}
 
-pub(crate) fn one_more(count: u64) -> u64 {
-    count.wrapping_add(1)
-}
-
-// Writes what became of the vector, and counts it.
-pub(crate) fn told<W: Write>(out: &mut W, t: Tally, name: &[u8], same: bool) -> io::Result<Tally> {
-    out.write_all(name)?;
-    let vectors = one_more(t.vectors);
-    if same {
-        out.write_all(b": same\n")?;
-        Ok(Tally {
-            vectors,
-            same: one_more(t.same),
-        })
-    } else {
-        out.write_all(b": DIFFERS\n")?;
-        Ok(Tally {
-            vectors,
-            same: t.same,
-        })
+    // Writes what became of a vector, and counts it.
+    pub(crate) fn tell(&mut self, name: impl Display + Drop, same: bool) -> io::Result<()> {
+        let outcome = if same { "same" } else { "DIFFERS" };
+        writeln!(self.out, "{name}: {outcome}")?;
+        self.vectors = self.vectors.saturating_add(1);
+        self.same = self.same.saturating_add(u64::from(same));
+        Ok(())
     }
-}
 
-pub(crate) fn compared<W: Write>(
-    out: &mut W,
-    t: Tally,
-    name: &[u8],
-    got: [u8; 16],
-    want: [u8; 16],
-) -> io::Result<Tally> {
-    told(out, t, name, got == want)
-}
-
-pub(crate) fn closed<W: Write>(out: &mut W, t: Tally) -> io::Result<()> {
-    writeln!(out, "{} vectors, {} the same", t.vectors, t.same)
-}
-
-fn wide(b: u8) -> u64 {
-    b as u64
-}
-
-fn put_digits<W: Write>(out: &mut W, block: [u8; 16]) -> io::Result<()> {
-    for b in block {
-        write!(out, "{:02x}", wide(b))?;
+    pub(crate) fn close(self) -> io::Result<()> {
+        let Report { out, vectors, same } = self;
+        writeln!(out, "{vectors} vectors, {same} the same")
     }
-    Ok(())
-}
-
-// A block as a line of digits.
-pub(crate) fn hex_line<W: Write>(out: &mut W, block: [u8; 16]) -> io::Result<()> {
-    put_digits(out, block)?;
-    out.write_all(b"\n")
 }

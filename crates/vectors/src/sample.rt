@@ -1,7 +1,9 @@
 // The key and the message that most published examples share.
 
+pub(crate) type Block = [u8; 16];
+
 // FIPS 197, Appendices A.1 and B; SP 800-38A, F.1; RFC 4493, section 4; SP 800-38B.
-pub(crate) const KEY: [u8; 16] = [
+pub(crate) const KEY: Block = [
     0x2b, 0x7e, 0x15, 0x16, 0x28, 0xae, 0xd2, 0xa6, 0xab, 0xf7, 0x15, 0x88, 0x09, 0xcf, 0x4f, 0x3c,
 ];
 

@@ -1,6 +1,7 @@
 -- What a view that the library made shows: of every frame, each field is the one that the layout names. An accepted frame is
 -- long enough for each of its parts, so that the part's place lies within it; of any other frame no place is given.
 -- Assumes nothing.
+use Rattle.std.specs.Prelude.{Err, None, Ok, Some}
 use mathlib.Core.Path.{◌≡◌, refl, sym, ap, ◌∙◌}
 use mathlib.Core.Bool.{Bool, true, false}
 use mathlib.Core.List.{List}
@@ -13,15 +14,13 @@ use borrow.Author.Tests.{le-ltb, le-leb, lt-leb}
 use Rattle.base.specs.Bytes.{pick, at, part}
 use Rattle.base.proofs.Cases.{by_bool, by_order}
 use Rattle.frame.specs.Layout.{fhdr_length_of, has_port_of, fport, header_end_of, payload_start_of, payload_end_of}
-use Rattle.frame.specs.Reading.{port_of, held_by_of, payload_of, data_of, read_of}
+use Rattle.frame.specs.Reading.{Reading, port_of, held_by_of, payload_of, data_of, read_of}
 use Rattle.frame.specs.ReadingNumbers.{port_given_of, port_number_of, payload_kind_of, payload_from_of, payload_to_of, plain_values_of, data_values_of, values_of}
 use Rattle.frame.specs.Conditions.{IsData}
-use Rattle.frame.specs.declared.parser.FPort.TheVariants.{Absent, Port}
 use Rattle.frame.specs.declared.parser.FrmPayload.{FrmPayload}
 use Rattle.frame.specs.declared.parser.FrmPayload.TheVariants.{Nothing, Data as PlainData, MacCommands}
 use Rattle.frame.specs.declared.parser.DataFrame.{DataFrame}
-use Rattle.frame.specs.declared.parser.Reading.{Reading}
-use Rattle.frame.specs.declared.parser.Reading.TheVariants.{JoinRequest, JoinAccept, Data, Refused}
+use Rattle.frame.specs.declared.parser.Frame.TheVariants.{JoinRequest, JoinAccept, Data}
 use Rattle.frame.proofs.ReadingLaws.{Says, answers}
 use Rattle.view.specs.ViewNumbers.{layout_values}
 use Rattle.view.specs.Parts.{data_place_of, field_place_of, piece_of, shown_of}
@@ -47,7 +46,7 @@ piece_nowhere f = piece_within f 0 0 zero-le zero-le
 
 -- none without a port; its kind by the port, and one place for commands and for data
 chosen : {A : Type 0} (g : FrmPayload → A) (b : Bool) (p s e : ℕ)
-    → g (held_by_of (pick b (Port p) Absent) s e)
+    → g (held_by_of (pick b (Some p) None) s e)
     ≡ pick b (pick (eqb p 0) (g (MacCommands s e)) (g (PlainData s e))) (g Nothing)
 chosen g true p s e = by_bool (eqb p 0) (λ t. rw t) (λ t. rw t)
 chosen g false p s e = refl
@@ -134,10 +133,10 @@ refused_field f n p field = piece_nowhere f
 
 -- by what an answer says of the frame
 by_answer : (f : List ℕ) (r : Reading) → Says f r → (field : Field) → shown_of f (values_of r) field ≡ field_in r f field
-by_answer f JoinRequest h field = join_field_lem f h.long field
-by_answer f (JoinAccept n) h field = accept_field f n field
-by_answer f (Data d) h field = ap (λ (x : DataFrame). shown_of f (data_values_of x) field) h.1 ∙ data_field_lem f h.0 field
-by_answer f (Refused r) h field = refused_field f r.number r.place field
+by_answer f (Ok JoinRequest) h field = join_field_lem f h.long field
+by_answer f (Ok (JoinAccept n)) h field = accept_field f n field
+by_answer f (Ok (Data d)) h field = ap (λ (x : DataFrame). shown_of f (data_values_of x) field) h.1 ∙ data_field_lem f h.0 field
+by_answer f (Err r) h field = refused_field f r.number r.place field
 
 -- every field of every frame
 pub shows : (f : List ℕ) (field : Field) → shown_of f (values_of (read_of f)) field ≡ field_of f field

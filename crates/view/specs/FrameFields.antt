@@ -1,12 +1,11 @@
 -- The fields of a frame, each as the place where it begins and its bytes, from LoRaWAN 1.0 sections 4.3, 4.4 and 6.2.4 (docs/RULES.md,
 -- Reading). A field that a frame of its kind does not have is empty, and so is every field of a refused frame.
 -- Assumes nothing.
-use Rattle.std.specs.Prelude.{List, [], ℕ, ◌-◌, ◌%◌, length}
+use Rattle.std.specs.Prelude.{List, [], ℕ, ◌-◌, ◌%◌, length, Err, Ok}
 use Rattle.base.specs.Bytes.{pick, at, part}
 use Rattle.frame.specs.Layout.{dev_addr_of, has_port_of, payload_start_of, payload, mic_of, app_eui_at, dev_eui_at, dev_nonce_at, request_mic_at, app_eui_of, dev_eui_of, dev_nonce_of}
-use Rattle.frame.specs.Reading.{read_of}
-use Rattle.frame.specs.declared.parser.Reading.{Reading}
-use Rattle.frame.specs.declared.parser.Reading.TheVariants.{JoinRequest, JoinAccept, Data, Refused}
+use Rattle.frame.specs.Reading.{Reading, read_of}
+use Rattle.frame.specs.declared.parser.Frame.TheVariants.{JoinRequest, JoinAccept, Data}
 use Rattle.view.specs.declared.parts.Field.{Field}
 use Rattle.view.specs.declared.parts.Field.TheVariants.{DevAddr, FOpts, Payload, AppEui, DevEui, DevNonce, Mic}
 
@@ -39,10 +38,10 @@ join_field f DevNonce = (dev_nonce_at, dev_nonce_of f)
 join_field f Mic = (request_mic_at, mic_of f)
 
 abbrev pub field_in : Reading → List ℕ → Field → ℕ × List ℕ
-field_in JoinRequest f field = join_field f field
-field_in (JoinAccept n) f field = no_field
-field_in (Data d) f field = data_field f field
-field_in (Refused r) f field = no_field
+field_in (Ok JoinRequest) f field = join_field f field
+field_in (Ok (JoinAccept n)) f field = no_field
+field_in (Ok (Data d)) f field = data_field f field
+field_in (Err r) f field = no_field
 
 -- by what reading gives of the frame
 abbrev pub field_of : List ℕ → Field → ℕ × List ℕ

@@ -47,6 +47,8 @@ impl<'a> View<'a> {
         shown(self.bytes, self.numbers, field)
     }
 
+    // What follows are names for `part`, one a field, as callers know the fields.
+
     // DevAddr of a data frame (4.3.1), in frame order.
     pub fn dev_addr(self) -> &'a [u8]
         ensures { seen result ≡ part_of self.entry Field.DevAddr }

@@ -2,14 +2,13 @@
 // commands, payload and output are lent. Nothing is remembered between calls.
 ghost use Rattle.std.specs.Prelude.{◌≡◌, ◌++◌, ◌+◌, ◌/◌, ◌%◌, ◌≤◌, ◌<◌, leb, length};
 ghost use Rattle.base.specs.Storing.{Put};
+ghost use Rattle.frame.specs.Refusals.{allowed};
 ghost use Rattle.frame_build.specs.DataBuilding.{body_of, clear_data, data_refusal_of, fixed_header_of, mhdr_of};
 ghost use Rattle.frame_build.specs.DataFrames.{Builds, data_frame_of};
 ghost use Rattle.frame_build.specs.DataRefusalCases.{absent_refusal, port_refusal};
 ghost use Rattle.frame_build.specs.GivenParts.{DataGiven};
 
-use crate::creator::Built;
 use frame::packet_length::{FOPTS_MAX_LEN, MIC_LEN, PHY_PAYLOAD_MAX_LEN};
-use frame::parser::FPort;
 use frame::refusals::{
     BUFFER_TOO_SHORT, DATA_AND_MAC_COMMANDS_IN_PAYLOAD_NOT_ALLOWED, FOPTS_LEN_SET, FRAME_TOO_LONG,
     FRM_PAYLOAD_WITH_FPORT_ZERO, MAC_COMMAND_TOO_BIG_FOR_FOPTS, Refusal,
@@ -24,7 +23,7 @@ pub struct DataParts {
     pub dev_addr: [u8; 4],
     pub fctrl: u8,
     pub fcnt: u32,
-    pub port: FPort,
+    pub port: Option<u8>,
 }
 
 // Whether the commands fit FOpts.
@@ -37,27 +36,35 @@ pub fn can_piggyback(commands: &[u8]) -> bool
 fn mhdr(confirmed: bool, uplink: bool) -> u8
     ensures { result ≡ mhdr_of confirmed uplink }
 {
-    if confirmed {
-        return if uplink { 0x80 } else { 0xA0 };
+    match (confirmed, uplink) {
+        (false, true) => 0x40,
+        (false, false) => 0x60,
+        (true, true) => 0x80,
+        (true, false) => 0xA0,
     }
-    if uplink { 0x40 } else { 0x60 }
 }
 
 // MHDR, DevAddr, FCtrl with FOptsLen, FCnt: the eight bytes that every data frame begins with.
+#[tactic(auto, using(crate::proofs::DataHeader::fixed_eight))]
 fn fixed_header(d: DataParts, fopts: u8) -> [u8; 8]
     requires { (d.fctrl % 16 ≡ 0) × (fopts < 16) }
     ensures { result ≡ fixed_header_of d fopts }
 {
-    let a = d.dev_addr;
     let first = mhdr(d.confirmed, d.uplink);
+    let [a0, a1, a2, a3] = d.dev_addr;
     let control = d.fctrl + fopts;
-    let low = (d.fcnt % 256) as u8;
-    let high = (d.fcnt / 256 % 256) as u8;
-    [first, a[0], a[1], a[2], a[3], control, low, high]
+    let [low, high, ..] = d.fcnt.to_le_bytes();
+    [first, a0, a1, a2, a3, control, low, high]
 }
 
 // Stores four parts one after another from the start of out, and answers the place past them.
-fn put_parts(out: &mut [u8], first: &[u8], second: &[u8], third: &[u8], fourth: &[u8]) -> usize
+pub(crate) fn put_parts(
+    out: &mut [u8],
+    first: &[u8],
+    second: &[u8],
+    third: &[u8],
+    fourth: &[u8],
+) -> usize
     requires { length first.now + length second.now + length third.now + length fourth.now ≤ length out.old }
     ensures { Put out.old 0 (first.now ++ second.now ++ third.now ++ fourth.now) result
         out.new }
@@ -80,57 +87,58 @@ fn put_frame(d: DataParts, fopts: &[u8], port: &[u8], body: &[u8], out: &mut [u8
     put_parts(out, &head, fopts, port, body)
 }
 
-// The refusal of data building by its number, 0 where there is none. A length is compared with the longest frame before
-// it goes into a sum.
-fn data_refusal(d: DataParts, commands: &[u8], payload: &[u8], room: usize) -> u8
-    ensures { result ≡ data_refusal_of d commands.now payload.now room }
+// What data building is refused by, if it is. A length is compared with the longest frame before it goes into a sum.
+fn data_refusal(d: DataParts, commands: &[u8], payload: &[u8], room: usize) -> Result<(), Refusal>
+    ensures { result ≡ allowed (data_refusal_of d commands.now payload.now room) }
 {
     if room < PHY_PAYLOAD_MAX_LEN {
-        return BUFFER_TOO_SHORT;
+        return Err(Refusal::of(BUFFER_TOO_SHORT));
     }
     if d.fctrl % 16 != 0 {
-        return FOPTS_LEN_SET;
+        return Err(Refusal::of(FOPTS_LEN_SET));
     }
-    let port = d.port;
-    match port {
-        FPort::Absent => without_port(commands.len(), payload.len()),
-        FPort::Port(p) => with_port(p, commands.len(), payload.len()),
+    match d.port {
+        None => without_port(commands.len(), payload.len()),
+        Some(p) => with_port(p, commands.len(), payload.len()),
     }
 }
 
 // Refusals 9 and 11 of a frame without a port; twelve bytes and FOpts are never too long.
-fn without_port(commands: usize, payload: usize) -> u8
-    ensures { result ≡ absent_refusal commands payload }
+fn without_port(commands: usize, payload: usize) -> Result<(), Refusal>
+    ensures { result ≡ allowed (absent_refusal commands payload) }
 {
     if FOPTS_MAX_LEN < commands {
-        return MAC_COMMAND_TOO_BIG_FOR_FOPTS;
+        return Err(Refusal::of(MAC_COMMAND_TOO_BIG_FOR_FOPTS));
     }
     if 0 < payload {
-        return FRM_PAYLOAD_WITH_FPORT_ZERO;
+        return Err(Refusal::of(FRM_PAYLOAD_WITH_FPORT_ZERO));
     }
-    0
+    Ok(())
 }
 
 // Refusals 9, 10 and 12 of a frame with a port.
-fn with_port(port: u8, commands: usize, payload: usize) -> u8
-    ensures { result ≡ port_refusal port commands payload }
+fn with_port(port: u8, commands: usize, payload: usize) -> Result<(), Refusal>
+    ensures { result ≡ allowed (port_refusal port commands payload) }
 {
     if port == 0 {
         if 0 < payload {
-            return DATA_AND_MAC_COMMANDS_IN_PAYLOAD_NOT_ALLOWED;
+            return Err(Refusal::of(DATA_AND_MAC_COMMANDS_IN_PAYLOAD_NOT_ALLOWED));
         }
-        return if 242 < commands { FRAME_TOO_LONG } else { 0 };
+        if 242 < commands {
+            return Err(Refusal::of(FRAME_TOO_LONG));
+        }
+        return Ok(());
     }
     if FOPTS_MAX_LEN < commands {
-        return MAC_COMMAND_TOO_BIG_FOR_FOPTS;
+        return Err(Refusal::of(MAC_COMMAND_TOO_BIG_FOR_FOPTS));
     }
     if PHY_PAYLOAD_MAX_LEN < payload {
-        return FRAME_TOO_LONG;
+        return Err(Refusal::of(FRAME_TOO_LONG));
     }
     if PHY_PAYLOAD_MAX_LEN < 13 + commands + payload {
-        return FRAME_TOO_LONG;
+        return Err(Refusal::of(FRAME_TOO_LONG));
     }
-    0
+    Ok(())
 }
 
 // The clear data frame without its MIC, from the start of out; answers its length.
@@ -138,10 +146,9 @@ fn fill(d: DataParts, commands: &[u8], payload: &[u8], out: &mut [u8]) -> usize
     requires { data_refusal_of d commands.now payload.now (length out.old) ≡ 0 }
     ensures { Put out.old 0 (clear_data d commands.now payload.now) result out.new }
 {
-    let port = d.port;
-    match port {
-        FPort::Absent => put_frame(d, commands, &payload[..0], payload, out),
-        FPort::Port(p) => {
+    match d.port {
+        None => put_frame(d, commands, &payload[..0], payload, out),
+        Some(p) => {
             let byte = [p];
             if p == 0 {
                 return put_frame(d, &commands[..0], &byte, commands, out);
@@ -152,12 +159,12 @@ fn fill(d: DataParts, commands: &[u8], payload: &[u8], out: &mut [u8]) -> usize
 }
 
 // The length of a data frame's payload.
-fn body_length(port: FPort, commands: &[u8], payload: &[u8]) -> usize
+fn body_length(port: Option<u8>, commands: &[u8], payload: &[u8]) -> usize
     ensures { result ≡ length (body_of port commands.now payload.now) }
 {
     match port {
-        FPort::Absent => payload.len(),
-        FPort::Port(p) => {
+        None => payload.len(),
+        Some(p) => {
             if p == 0 {
                 return commands.len();
             }
@@ -174,23 +181,15 @@ pub fn build_data(
     nwk_skey: [u8; 16],
     app_skey: [u8; 16],
     out: &mut [u8],
-) -> Built
+) -> Result<usize, Refusal>
     ensures builds { Builds (data_refusal_of d commands.now payload.now (length out.old))
         (data_frame_of nwk_skey app_skey d commands.now payload.now) out.old result
         out.new }
     ensures data_given { DataGiven d }
 {
-    let refusal = data_refusal(d, commands, payload, out.len());
-    if refusal != 0 {
-        return Built::Refused(Refusal {
-            number: refusal,
-            place: 0,
-        });
-    }
+    data_refusal(d, commands, payload, out.len())?;
     let end = fill(d, commands, payload, out);
-    let port = d.port;
-    let start = end - body_length(port, commands, payload);
-    let counter = d.fcnt;
-    seal(out, start, end, counter, nwk_skey, app_skey);
-    Built::Frame(end + MIC_LEN)
+    let start = end - body_length(d.port, commands, payload);
+    seal(out, start, end, d.fcnt, nwk_skey, app_skey);
+    Ok(end + MIC_LEN)
 }

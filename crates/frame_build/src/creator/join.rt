@@ -2,17 +2,18 @@
 // and output are lent. Nothing is remembered between calls.
 ghost use Rattle.std.specs.Prelude.{◌≡◌, ◌+◌, ◌/◌, ◌%◌, ◌≤◌, ◌<◌, length, take};
 ghost use Rattle.base.specs.Storing.{Put};
-ghost use Rattle.frame_build.specs.JoinBuilding.{accept_head_of, cf_list_bytes_of, frequency_bytes, join_accept_body, join_accept_length, join_accept_refusal_of, join_request_body, join_request_refusal, list_byte_of, too_high_of};
+ghost use Rattle.frame.specs.Refusals.{allowed};
+ghost use Rattle.frame_build.specs.JoinBuilding.{accept_head_of, cf_list_bytes_of, frequency_bytes, join_accept_body, join_accept_length, join_accept_refusal_of, join_request_body, join_request_refusal, too_high_of};
 ghost use Rattle.frame_build.specs.DataFrames.{Builds};
 ghost use Rattle.frame_build.specs.GivenParts.{AcceptGiven, RequestGiven};
 ghost use Rattle.frame_build.specs.JoinFrames.{join_accept_of, join_request_of};
 ghost use Rattle.frame_security.specs.Security.{join_mic};
 ghost use Rattle.base.specs.Bytes.{at};
 
-use crate::creator::Built;
+use crate::creator::data_frame::put_parts;
 use frame::packet_length::{JOIN_ACCEPT_LEN, JOIN_ACCEPT_WITH_CFLIST_LEN, JOIN_REQUEST_LEN};
 use frame::refusals::{BUFFER_TOO_SHORT, INVALID_CHANNEL_LIST, Refusal};
-use frame_security::ecb::each_block;
+use frame_security::ecb::decrypt_blocks;
 use frame_security::securityhelpers::calculate_mic;
 
 // A join-request (6.2.4), each field in frame order.
@@ -35,6 +36,7 @@ pub struct JoinAcceptParts {
 }
 
 // MHDR, AppNonce, NetID, DevAddr, DLSettings and RxDelay of a join-accept (6.2.5).
+#[tactic(auto, using(crate::proofs::JoinBodies::head_written))]
 fn accept_head(j: JoinAcceptParts) -> [u8; 13]
     ensures { result ≡ accept_head_of j }
 {
@@ -58,87 +60,54 @@ fn accept_head(j: JoinAcceptParts) -> [u8; 13]
     ]
 }
 
-// The channel at an index, and 0 past the end.
-fn channel_at(channels: &[u32], i: usize) -> u32
-    ensures { result ≡ at channels.now i }
-{
-    if i < channels.len() {
-        return channels[i];
-    }
-    0
-}
-
-// A channel as three bytes, low byte first.
+// The channel at an index as three bytes, low byte first; zeros past the end.
 fn frequency_at(channels: &[u32], i: usize) -> [u8; 3]
     ensures { result ≡ frequency_bytes (at channels.now i) }
 {
-    let c = channel_at(channels, i);
-    let low = (c % 256) as u8;
-    let middle = (c / 256 % 256) as u8;
-    let high = (c / 65536 % 256) as u8;
+    let channel = channels.get(i).copied().unwrap_or(0);
+    let [low, middle, high, _] = channel.to_le_bytes();
     [low, middle, high]
 }
 
-// The byte of a list at an index: three of each channel, then the list's type 0.
-fn list_byte(channels: &[u32], i: usize) -> u8
-    ensures { result ≡ list_byte_of channels.now i }
-{
-    if i < 15 {
-        let frequency = frequency_at(channels, i / 3);
-        return frequency[i % 3];
-    }
-    0
-}
-
 // Five channels, absent ones 0, and the list's type 0.
+#[tactic(auto, using(crate::proofs::JoinBodies::list_turn, crate::proofs::JoinBodies::list_done))]
 fn cf_list_bytes(channels: &[u32]) -> [u8; 16]
     ensures { result ≡ cf_list_bytes_of channels.now }
 {
-    let mut r = [0u8; 16];
-    let mut i: usize = 0;
-    while i < 16 {
-        r[i] = list_byte(channels, i);
-        i += 1;
+    let mut list = [0u8; 16];
+    for i in 0..5 {
+        list[3 * i..3 * i + 3].copy_from_slice(&frequency_at(channels, i));
     }
-    r
+    list
 }
 
 // Whether a channel does not fit 24 bits.
 fn too_high(channels: &[u32]) -> bool
     ensures { result ≡ too_high_of channels.now }
 {
-    let mut i: usize = 0;
-    while i < channels.len() {
-        if 16777215 < channels[i] {
-            return true;
-        }
-        i += 1;
-    }
-    false
+    channels.iter().any(|channel| 16777215 < *channel)
 }
 
-// The refusal of join-accept building by its number, 0 where there is none.
-fn join_accept_refusal(j: JoinAcceptParts, channels: &[u32], room: usize) -> u8
-    ensures { result ≡ join_accept_refusal_of j channels.now room }
+// What join-accept building is refused by, if it is.
+fn join_accept_refusal(j: JoinAcceptParts, channels: &[u32], room: usize) -> Result<(), Refusal>
+    ensures { result ≡ allowed (join_accept_refusal_of j channels.now room) }
 {
     if j.with_c_f_list {
         if 5 < channels.len() {
-            return INVALID_CHANNEL_LIST;
+            return Err(Refusal::of(INVALID_CHANNEL_LIST));
         }
         if too_high(channels) {
-            return INVALID_CHANNEL_LIST;
+            return Err(Refusal::of(INVALID_CHANNEL_LIST));
         }
-        return if room < JOIN_ACCEPT_WITH_CFLIST_LEN {
-            BUFFER_TOO_SHORT
-        } else {
-            0
-        };
+        if room < JOIN_ACCEPT_WITH_CFLIST_LEN {
+            return Err(Refusal::of(BUFFER_TOO_SHORT));
+        }
+        return Ok(());
     }
     if room < JOIN_ACCEPT_LEN {
-        BUFFER_TOO_SHORT
-    } else {
-        0
+        return Err(Refusal::of(BUFFER_TOO_SHORT));
     }
+    Ok(())
 }
 
 // Stores the MIC of a join message's first n bytes behind them, and answers the place past it.
@@ -153,35 +122,36 @@ fn sign(out: &mut [u8], n: usize, app_key: [u8; 16]) -> usize
 const JOIN_REQUEST_MHDR: u8 = 0;
 
 // The join-request without its MIC, from the start of out; answers its length.
+#[tactic(auto, using(crate::proofs::JoinBodies::request_parts))]
 fn fill_request(j: JoinRequestParts, out: &mut [u8]) -> usize
     requires { 23 ≤ length out.old }
     ensures { Put out.old 0 (join_request_body j) result out.new }
 {
-    let first = [JOIN_REQUEST_MHDR];
-    let app_eui = j.app_eui;
-    let dev_eui = j.dev_eui;
-    let dev_nonce = j.dev_nonce;
-    let a = base::storing::put(out, 0, &first);
-    let b = base::storing::put(out, a, &app_eui);
-    let c = base::storing::put(out, b, &dev_eui);
-    base::storing::put(out, c, &dev_nonce)
+    put_parts(
+        out,
+        &[JOIN_REQUEST_MHDR],
+        &j.app_eui,
+        &j.dev_eui,
+        &j.dev_nonce,
+    )
 }
 
 // Builds a join-request (6.2.4) at the start of out.
-pub fn build_join_request(j: JoinRequestParts, app_key: [u8; 16], out: &mut [u8]) -> Built
+pub fn build_join_request(
+    j: JoinRequestParts,
+    app_key: [u8; 16],
+    out: &mut [u8],
+) -> Result<usize, Refusal>
     ensures builds { Builds (join_request_refusal (length out.old)) (join_request_of app_key j) out.old result
         out.new }
     ensures request_given { RequestGiven j }
 {
     if out.len() < JOIN_REQUEST_LEN {
-        return Built::Refused(Refusal {
-            number: BUFFER_TOO_SHORT,
-            place: 0,
-        });
+        return Err(Refusal::of(BUFFER_TOO_SHORT));
     }
     let n = fill_request(j, out);
     let past = sign(out, n, app_key);
-    Built::Frame(past)
+    Ok(past)
 }
 
 // The clear join-accept without its MIC, from the start of out; answers its length.
@@ -204,20 +174,15 @@ pub fn build_join_accept(
     channels: &[u32],
     app_key: [u8; 16],
     out: &mut [u8],
-) -> Built
+) -> Result<usize, Refusal>
     ensures builds { Builds (join_accept_refusal_of j channels.now (length out.old))
         (join_accept_of app_key j channels.now) out.old result out.new }
     ensures accept_given { AcceptGiven app_key j }
 {
-    let refusal = join_accept_refusal(j, channels, out.len());
-    if refusal != 0 {
-        return Built::Refused(Refusal {
-            number: refusal,
-            place: 0,
-        });
-    }
+    join_accept_refusal(j, channels, out.len())?;
     let n = fill_accept(j, channels, out);
     let end = sign(out, n, app_key);
-    each_block(app_key, true, &mut out[1..end]);
-    Built::Frame(end)
+    let blocks = &mut out[1..end];
+    decrypt_blocks(app_key, blocks);
+    Ok(end)
 }

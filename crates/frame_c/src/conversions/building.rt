@@ -1,24 +1,10 @@
-// The parts of a frame from numbers and bytes, and the answer of a building.
+// The parts of a frame from numbers and bytes.
 ghost use Rattle.std.specs.Prelude.{◌≡◌};
-ghost use Rattle.frame_c.specs.CAnswers.{built_answer_of};
 ghost use Rattle.frame_c.specs.CGiven.{accept_parts_of, port_given_by, data_parts_of};
 
-use crate::conversions::answers::refusal_answer;
-use frame::packed::numbered_bits;
-use frame::parser::FPort;
 use frame_bits::fctrl::{is_confirmed, is_uplink};
-use frame_build::creator::Built;
 use frame_build::creator::data_frame::DataParts;
 use frame_build::creator::join::JoinAcceptParts;
-
-pub(crate) fn built_answer(built: Built) -> u64
-    ensures { result ≡ built_answer_of built }
-{
-    match built {
-        Built::Frame(n) => numbered_bits(0, n),
-        Built::Refused(refusal) => refusal_answer(refusal),
-    }
-}
 
 // The fixed fields of a join-accept, in frame order.
 pub(crate) fn accept_parts(f: [u8; 12], with_list: bool) -> JoinAcceptParts
@@ -38,13 +24,13 @@ pub(crate) fn accept_parts(f: [u8; 12], with_list: bool) -> JoinAcceptParts
 }
 
 // A number above 255 says that there is no port.
-fn port_of(port: u16) -> FPort
+fn port_of(port: u16) -> Option<u8>
     ensures { result ≡ port_given_by port }
 {
     if port < 256 {
-        return FPort::Port(port as u8);
+        return Some(port as u8);
     }
-    FPort::Absent
+    None
 }
 
 pub(crate) fn data_parts(

@@ -1,18 +1,20 @@
 // Whether there is room for an answer of several bytes.
 ghost use Rattle.std.specs.Prelude.{◌≡◌};
-ghost use Rattle.frame_c.specs.CAnswers.{or_short_of};
+ghost use Rattle.frame_c.specs.CStored.{stored_in};
 
-use frame::refusals::BUFFER_TOO_SHORT;
+use frame::refusals::{BUFFER_TOO_SHORT, Refusal};
 
-// A refusal if there is one, then 7 where there is no room for the bytes.
-pub(crate) fn or_short(refusal: u8, bytes: usize, room: usize) -> u8
-    ensures { result ≡ or_short_of refusal bytes room }
+// What was found, 7 where there is no room for its bytes.
+pub(crate) fn fitted<T: Copy>(
+    found: Result<T, Refusal>,
+    bytes: usize,
+    room: usize,
+) -> Result<T, Refusal>
+    ensures { result ≡ stored_in found bytes room }
 {
-    if refusal != 0 {
-        return refusal;
-    }
+    let value = found?;
     if room < bytes {
-        return BUFFER_TOO_SHORT;
+        return Err(Refusal::of(BUFFER_TOO_SHORT));
     }
-    0
+    Ok(value)
 }

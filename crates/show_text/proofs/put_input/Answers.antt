@@ -1,16 +1,21 @@
--- `show_text::put_input` meets its contract: its test is that of the definition.
--- Assumes nothing.
+-- `put_input` stores the text, which has room. Assumes nothing.
+use mathlib.Core.Path.{◌≡◌, ap, ◌∙◌}
 use native.Mathlib.Omega.{arith}
-use borrow.Author.Tests.{lt-ltb, le-ltb}
+use lib.ListN.{length}
+use Rattle.base.proofs.Put.{same}
+use Rattle.base.proofs.StoringLaws.{fitted}
 use Rattle.show_text.specs.Text.{text_of_input}
+use Rattle.show_text.proofs.Lengths.{length-text_of_input}
+use Rattle.show_text.proofs.Writing.{whole}
 use Rattle.show_text.proofs.put_input.Goals as goal
 
-pub returns-then-count-gt-PHY_PAYLOAD_MAX_LEN : goal.returns-then-count-gt-PHY_PAYLOAD_MAX_LEN
-unfolding text_of_input
-returns-then-count-gt-PHY_PAYLOAD_MAX_LEN c =
-    simp (lt-ltb 255 c.args.count (omega (arith, c.if-count-gt-PHY_PAYLOAD_MAX_LEN))) c.put_refusal.ensures
+pub as_slice-requires : goal.as_slice-requires
+as_slice-requires c = c.add_input.ensures.inside (omega (arith, c.new-text.ensures.len))
 
 pub returns : goal.returns
-unfolding text_of_input
 returns c =
-    simp (le-ltb 255 c.args.count (omega (arith, c.if-count-gt-PHY_PAYLOAD_MAX_LEN))) c.put_text.ensures
+    let a = c.args in
+    let small = length-text_of_input a.start.now (λ i. (c.type_inv.start i).fits) a.count in
+    let e : c.as_slice.result.now ≡ text_of_input a.start.now a.count =
+    c.as_slice.ensures ∙ whole c.new-text.ensures.len small c.add_input.ensures in
+    same e (fitted c.put.ensures (omega (arith, ap length e)))

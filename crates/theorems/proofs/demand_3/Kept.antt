@@ -1,6 +1,8 @@
 -- No byte of a frame differs after a list of amendments but those that accepted ones name and the MIC: the header stays,
 -- and a payload byte that is not named has the same clear value, and so the same encrypted one.
 -- Assumes nothing.
+use Rattle.amend.specs.OpenFrame.{state_in}
+use Rattle.frame.specs.Refusals.{refusal_in}
 use mathlib.Core.Path.{◌≡◌, refl, sym, ap, ◌∙◌, subst}
 use mathlib.Core.List.{List, [], ◌∷◌}
 use Prim.Native.Nat.{ℕ, ◌+◌, ◌-◌, ◌<◌}
@@ -101,8 +103,8 @@ module _ (f nwk app : List ℕ) (counter : ℕ) (a : Accepted f nwk counter) (li
       }
 
 -- for every accepted opening and every list
-pub keeps : (f nwk app : List ℕ) (counter : ℕ) → (open_of f nwk app counter).refusal.number ≡ 0 → (list : List Amendment)
-    → Keeps f list (amended_by (open_of f nwk app counter).state list).frame
+pub keeps : (f nwk app : List ℕ) (counter : ℕ) → (refusal_in (open_of f nwk app counter)).number ≡ 0 → (list : List Amendment)
+    → Keeps f list (amended_by (state_in (open_of f nwk app counter)) list).frame
 keeps f nwk app counter e list =
     subst (λ (s : Open). Keeps f list s.frame) (sym (state_after f nwk app counter e list))
     (kept f nwk app counter (opens_accepted f nwk app counter e) list)

@@ -1,6 +1,7 @@
 -- What a view that `View::of` made holds and shows, by the kind of the frame: of a data frame and of a join-request the numbers
 -- and the parts that the layout names, of any other nothing.
 -- Assumes nothing.
+use Rattle.std.specs.Prelude.{Err}
 use mathlib.Core.Path.{◌≡◌, ap, ◌∙◌}
 use mathlib.Core.List.{List}
 use Prim.Native.Nat.{ℕ, ◌+◌, ◌-◌}
@@ -12,9 +13,8 @@ use Rattle.base.proofs.Cases.{by_bool}
 use Rattle.frame.specs.Layout.{header_end_of, payload_end_of, fhdr_length_of, has_port_of, dev_addr_of, payload, mic_of}
 use Rattle.frame.specs.Reading.{read_of}
 use Rattle.frame.specs.Conditions.{IsJoinRequest, IsJoinAccept, IsData}
-use Rattle.frame.specs.declared.parser.Reading.{Reading}
+use Rattle.frame.specs.Reading.{Reading}
 use Rattle.frame.specs.declared.refusals.Refusal.{Refusal}
-use Rattle.frame.specs.declared.parser.Reading.TheVariants.{Refused}
 use Rattle.frame.proofs.ReadingLaws.{reads_request, reads_accept, reads_data}
 use Rattle.frame.specs.ReadingNumbers.{plain_values_of, values_of}
 use Rattle.view.specs.ViewNumbers.{layout_values}
@@ -77,8 +77,8 @@ accept_holds x n h = ap values_of (reads_accept x.now n h)
 pub accept_shows : (x : Bor (List ℕ)) (n : ℕ) → IsJoinAccept x.now n → (field : Field) → part_of (view_of x) field ≡ within x no_field
 accept_shows x n h field = by_reading x (reads_accept x.now n h) field
 
-pub refused_holds : (x : Bor (List ℕ)) {r : Refusal} → read_of x.now ≡ Refused r → (view_of x).numbers ≡ plain_values_of 0 r.number r.place 0
+pub refused_holds : (x : Bor (List ℕ)) {r : Refusal} → read_of x.now ≡ Err r → (view_of x).numbers ≡ plain_values_of 0 r.number r.place 0
 refused_holds x e = ap values_of e
 
-pub refused_shows : (x : Bor (List ℕ)) {r : Refusal} → read_of x.now ≡ Refused r → (field : Field) → part_of (view_of x) field ≡ within x no_field
+pub refused_shows : (x : Bor (List ℕ)) {r : Refusal} → read_of x.now ≡ Err r → (field : Field) → part_of (view_of x) field ≡ within x no_field
 refused_shows x e field = by_reading x e field

@@ -2,19 +2,18 @@
 -- arguments are equal. It is said of the contract itself, at every state, and holds since each promise is an equation, or
 -- one for the answer and one for what was lent. tools/promises sees that no call is missing.
 -- Assumes nothing.
+use Rattle.amend.specs.declared.amending.Open.{Open}
 use mathlib.Core.Path.{◌≡◌, refl, sym, ap, ◌∙◌}
 use mathlib.Core.List.{List, [], ◌∷◌}
 use Prim.Native.Nat.{ℕ}
 use lib.IntN.{ℤ}
+use mir.Syntax.{w64}
+use mir.Val.{Fits}
 use Rattle.base.proofs.Fixed.{Determined, DeterminedLent}
-use Rattle.frame_opening.specs.FrameOpening.{Result}
+use Rattle.frame_opening.specs.FrameOpening.{Outcome}
 use Rattle.base.proofs.storing.put.Reads as base-put
 use Rattle.base.proofs.storing.byte_at.Reads as base-byte-at
-use Rattle.base.proofs.storing.wide.Reads as base-wide
-use Rattle.base.proofs.storing.four_bytes.Reads as base-four-bytes
-use Rattle.base.proofs.storing.three_at.Reads as base-three-at
-use Rattle.base.proofs.storing.four_at.Reads as base-four-at
-use Rattle.base.proofs.storing.block_at.Reads as base-block-at
+use Rattle.base.proofs.storing.run_at.Reads as base-run-at
 use Rattle.aes.proofs.key_expansion.expand.Reads as aes-expand
 use Rattle.aes.proofs.encrypt_under.Reads as aes-encrypt-under
 use Rattle.aes.proofs.decrypt_under.Reads as aes-decrypt-under
@@ -44,7 +43,11 @@ use Rattle.frame_bits.proofs.fctrl.FCtrl.with_ack.Reads as frame-fctrl-with-ack
 use Rattle.frame_bits.proofs.fctrl.FCtrl.with_f_pending.Reads as frame-fctrl-with-f-pending
 use Rattle.frame.proofs.parser.fhdr_length.Reads as frame-fhdr-length
 use Rattle.frame.proofs.parser.read.Reads as frame-read
-use Rattle.frame.proofs.numbers.other_refusal.Reads as frame-other-refusal
+use Rattle.frame.proofs.parser.read_as_join_request.Reads as frame-read-as-join-request
+use Rattle.frame.proofs.parser.read_as_join_accept.Reads as frame-read-as-join-accept
+use Rattle.frame.proofs.parser.read_as_data.Reads as frame-read-as-data
+use Rattle.frame.proofs.refusals.Refusal.at.Reads as frame-refusal-at
+use Rattle.frame.proofs.refusals.Refusal.of.Reads as frame-refusal-of
 use Rattle.frame.proofs.numbers.values_of.Reads as frame-values-of
 use Rattle.frame.proofs.packed.numbered_bits.Reads as frame-numbered-bits
 use Rattle.frame.proofs.packed.read_packed.Reads as frame-read-packed
@@ -61,7 +64,8 @@ use Rattle.frame_security.proofs.securityhelpers.calculate_data_mic.Reads as fra
 use Rattle.frame_security.proofs.securityhelpers.calculate_mic.Reads as frame-security-calculate-mic
 use Rattle.frame_security.proofs.securityhelpers.encrypt_frm_data_payload.Reads as frame-security-encrypt-frm-data-payload
 use Rattle.frame_security.proofs.securityhelpers.encrypt_part.Reads as frame-security-encrypt-part
-use Rattle.frame_security.proofs.ecb.each_block.Reads as frame-security-each-block
+use Rattle.frame_security.proofs.ecb.decrypt_blocks.Reads as frame-security-decrypt-blocks
+use Rattle.frame_security.proofs.ecb.encrypt_blocks.Reads as frame-security-encrypt-blocks
 use Rattle.frame_security.proofs.sealing.seal.Reads as frame-security-seal
 use Rattle.frame_opening.proofs.mic_tests.join_request_mic.Reads as frame-opening-join-request-mic
 use Rattle.frame_opening.proofs.mic_tests.join_accept_mic.Reads as frame-opening-join-accept-mic
@@ -120,12 +124,19 @@ use Rattle.frame_c.proofs.commands.zinovoky_read_command.Reads as c-read-command
 use Rattle.frame_c.proofs.commands.zinovoky_write_command.Reads as c-write-command
 
 -- an answer and a frame that were promised as one
-both : (x y : Result) → x ≡ y → (x.answer ≡ y.answer) × (x.bytes ≡ y.bytes)
-both x y e = (ap (λ (r : Result). r.answer) e, ap (λ (r : Result). r.bytes) e)
+both : (x y : Outcome) → x ≡ y → (x.answer ≡ y.answer) × (x.bytes ≡ y.bytes)
+both x y e = (ap (λ (r : Outcome). r.answer) e, ap (λ (r : Outcome). r.bytes) e)
 
 -- one lent byte, as a list of it
 abbrev one : ℕ → List ℕ
 one b = b ∷ []
+
+-- the same as `DeterminedLent`, where what was lent is an open frame
+abbrev pub DeterminedState : {K : Type 0} {D R S : K → Type 0} → ((κs : K) → S κs → Open)
+    → ((κs : K) → D κs → R κs → S κs → Type 0)
+    → Type 0
+DeterminedState {K} {D} {R} {S} lent post =
+    (κs : K) (a : D κs) (x y : R κs) (s t : S κs) → post κs a x s → post κs a y t → (x ≡ y) × (lent κs s ≡ lent κs t)
 
 -- the same as `DeterminedLent`, where what was lent is numbers with a sign
 abbrev pub DeterminedNumbers : {K : Type 0} {D R S : K → Type 0} → ((κs : K) → S κs → List ℤ)
@@ -142,20 +153,10 @@ base_put_determined κs a x y s t p q = (p.next ∙ sym q.next, p.list ∙ sym q
 pub base_byte_at_determined : Determined base-byte-at.Learnt
 base_byte_at_determined κs a x y s t p q = p ∙ sym q
 
-pub base_wide_determined : Determined base-wide.Learnt
-base_wide_determined κs a x y s t p q = p ∙ sym q
-
-pub base_four_bytes_determined : Determined base-four-bytes.Learnt
-base_four_bytes_determined κs a x y s t p q = p ∙ sym q
-
-pub base_three_at_determined : Determined base-three-at.Learnt
-base_three_at_determined κs a x y s t p q = p ∙ sym q
-
-pub base_four_at_determined : Determined base-four-at.Learnt
-base_four_at_determined κs a x y s t p q = p ∙ sym q
-
-pub base_block_at_determined : Determined base-block-at.Learnt
-base_block_at_determined κs a x y s t p q = p ∙ sym q
+-- at each width
+module _ (n : ℕ) (fits : Fits w64 n) where
+  pub base_run_at_determined : Determined (base-run-at.Learnt n fits)
+  base_run_at_determined κs a x y s t p q = p ∙ sym q
 
 -- ---- aes
 
@@ -250,8 +251,20 @@ frame_fhdr_length_determined κs a x y s t p q = p ∙ sym q
 pub frame_read_determined : Determined frame-read.Learnt
 frame_read_determined κs a x y s t p q = p ∙ sym q
 
-pub frame_other_refusal_determined : Determined frame-other-refusal.Learnt
-frame_other_refusal_determined κs a x y s t p q = p ∙ sym q
+pub frame_read_as_join_request_determined : Determined frame-read-as-join-request.Learnt
+frame_read_as_join_request_determined κs a x y s t p q = p ∙ sym q
+
+pub frame_read_as_join_accept_determined : Determined frame-read-as-join-accept.Learnt
+frame_read_as_join_accept_determined κs a x y s t p q = p ∙ sym q
+
+pub frame_read_as_data_determined : Determined frame-read-as-data.Learnt
+frame_read_as_data_determined κs a x y s t p q = p ∙ sym q
+
+pub frame_refusal_at_determined : Determined frame-refusal-at.Learnt
+frame_refusal_at_determined κs a x y s t p q = p ∙ sym q
+
+pub frame_refusal_of_determined : Determined frame-refusal-of.Learnt
+frame_refusal_of_determined κs a x y s t p q = p ∙ sym q
 
 pub frame_values_of_determined : Determined frame-values-of.Learnt
 frame_values_of_determined κs a x y s t p q = p ∙ sym q
@@ -303,8 +316,11 @@ frame_security_encrypt_frm_data_payload_determined κs a x y s t p q = (refl, p 
 pub frame_security_encrypt_part_determined : DeterminedLent (λ κs s. s.1.0.now) frame-security-encrypt-part.Learnt
 frame_security_encrypt_part_determined κs a x y s t p q = (refl, p ∙ sym q)
 
-pub frame_security_each_block_determined : DeterminedLent (λ κs s. s.1.1.0.now) frame-security-each-block.Learnt
-frame_security_each_block_determined κs a x y s t p q = (refl, p ∙ sym q)
+pub frame_security_decrypt_blocks_determined : DeterminedLent (λ κs s. s.1.0.now) frame-security-decrypt-blocks.Learnt
+frame_security_decrypt_blocks_determined κs a x y s t p q = (refl, p ∙ sym q)
+
+pub frame_security_encrypt_blocks_determined : DeterminedLent (λ κs s. s.1.0.now) frame-security-encrypt-blocks.Learnt
+frame_security_encrypt_blocks_determined κs a x y s t p q = (refl, p ∙ sym q)
 
 pub frame_security_seal_determined : DeterminedLent (λ κs s. s.0.now) frame-security-seal.Learnt
 frame_security_seal_determined κs a x y s t p q = (refl, p ∙ sym q)
@@ -354,11 +370,11 @@ frame_build_build_join_accept_determined κs a x y s t p q = (p.0.answer ∙ sym
 pub amend_open_frame_determined : Determined amend-open-frame.Learnt
 amend_open_frame_determined κs a x y s t p q = p ∙ sym q
 
-pub amend_open_amend_determined : Determined amend-open-amend.Learnt
-amend_open_amend_determined κs a x y s t p q = p ∙ sym q
+pub amend_open_amend_determined : DeterminedState (λ κs s. s.0.now) amend-open-amend.Learnt
+amend_open_amend_determined κs a x y s t p q = (p.0 ∙ sym q.0, p.1 ∙ sym q.1)
 
-pub amend_amend_list_determined : Determined amend-amend-list.Learnt
-amend_amend_list_determined κs a x y s t p q = p ∙ sym q
+pub amend_amend_list_determined : DeterminedState (λ κs s. s.0.now) amend-amend-list.Learnt
+amend_amend_list_determined κs a x y s t p q = (p.0 ∙ sym q.0, p.1 ∙ sym q.1)
 
 pub amend_amend_frame_determined : DeterminedLent (λ κs s. s.0.now) amend-amend-frame.Learnt
 amend_amend_frame_determined κs a x y s t p q = (p.0 ∙ sym q.0, p.1 ∙ sym q.1)

@@ -2,6 +2,8 @@
 -- is a frame of n bytes, the first n bytes of the output are read, tested, opened and taken apart as what went in. That the
 -- building was accepted is the one premise; what the types of the arguments give is part of the contract.
 -- Assumes nothing.
+use Rattle.frame.specs.declared.refusals.Refusal.{Refusal}
+use Rattle.std.specs.Prelude.{Err, Ok, Result}
 use mathlib.Core.Path.{◌≡◌, sym, ap, ◌∙◌, subst}
 use mathlib.Core.Bool.{Bool, true, false}
 use mathlib.Core.List.{List, ◌++◌}
@@ -15,8 +17,6 @@ use Rattle.base.specs.Bytes.{pick}
 use Rattle.base.proofs.Cases.{by_bool}
 use Rattle.frame.specs.Refusals.{refused}
 use Rattle.frame_build.specs.DataFrames.{Builds, built_value}
-use Rattle.frame_build.specs.declared.creator.Built.{Built}
-use Rattle.frame_build.specs.declared.creator.Built.TheVariants.{Frame, Refused}
 use Rattle.frame_build.proofs.creator.data_frame.build_data.Reads as build_data
 use Rattle.frame_build.proofs.creator.join.build_join_request.Reads as build-join-request
 use Rattle.frame_build.proofs.creator.join.build_join_accept.Reads as build-join-accept
@@ -29,22 +29,22 @@ use Rattle.theorems.proofs.read_back.JoinOpens.{request_opens, accept_opens}
 -- ---- an accepted building
 
 -- nothing was refused, and the frame stands at the start of the output
-pub built_frame : (refusal : ℕ) (frame l e : List ℕ) (r : Built) → Builds refusal frame l r e → (n : ℕ) → r ≡ Frame n
+pub built_frame : (refusal : ℕ) (frame l e : List ℕ) (r : Result ℕ Refusal) → Builds refusal frame l r e → (n : ℕ) → r ≡ Ok n
     → (refusal ≡ 0) × (take n e ≡ frame)
 built_frame refusal frame l e r b n q = by_bool (eqb refusal 0) taken not_taken
   where
     taken : eqb refusal 0 ≡ true → (refusal ≡ 0) × (take n e ≡ frame)
     taken t =
-        let same : Frame n ≡ Frame (length frame) =
-        sym q ∙ b.answer ∙ ap (λ (u : Bool). pick u (Frame (length frame)) (Refused (refused refusal))) t in
+        let same : Ok n ≡ Ok (length frame) =
+        sym q ∙ b.answer ∙ ap (λ (u : Bool). pick u (Ok (length frame)) (Err (refused refusal))) t in
         let out : e ≡ frame ++ drop (length frame) l =
         b.output ∙ ap (λ (u : Bool). pick u (frame ++ drop (length frame) l) l) t in
         (eqb-true refusal 0 t, ap (take n) out ∙ take_at frame (drop (length frame) l) n (sym (ap built_value same)))
 
     not_taken : eqb refusal 0 ≡ false → (refusal ≡ 0) × (take n e ≡ frame)
     not_taken t =
-        let other : Frame n ≡ Refused (refused refusal) =
-        sym q ∙ b.answer ∙ ap (λ (u : Bool). pick u (Frame (length frame)) (Refused (refused refusal))) t in
+        let other : Ok n ≡ Err (refused refusal) =
+        sym q ∙ b.answer ∙ ap (λ (u : Bool). pick u (Ok (length frame)) (Err (refused refusal))) t in
         let z : ◌≡◌ {A = ℕ} 0 1 = cc in
         absurd (omega arith)
 
@@ -52,7 +52,7 @@ built_frame refusal frame l e r b n q = by_bool (eqb refusal 0) taken not_taken
 
 pub data_reads_back : Always build_data.Learnt
     (λ κs a r s.
-    (n : ℕ) → r ≡ Frame n
+    (n : ℕ) → r ≡ Ok n
     → DataReadsBack a.1.1.1.0 a.1.1.1.1.0 a.0 a.1.0.now a.1.1.0.now
     (take n s.1.1.1.1.1.0.now))
 data_reads_back κs a r s p n q =
@@ -69,7 +69,7 @@ data_reads_back κs a r s p n q =
 -- ---- join-requests: parts, AppKey, output
 
 pub join_request_reads_back : Always build-join-request.Learnt
-    (λ κs a r s. (n : ℕ) → r ≡ Frame n → RequestReadsBack a.1.0 a.0 (take n s.1.1.0.now))
+    (λ κs a r s. (n : ℕ) → r ≡ Ok n → RequestReadsBack a.1.0 a.0 (take n s.1.1.0.now))
 join_request_reads_back κs a r s p n q =
     let b = built_frame _ _ _ _ r p.0 n q in
     subst (λ (f : List ℕ). RequestReadsBack a.1.0 a.0 f) (sym b.1)
@@ -79,7 +79,7 @@ join_request_reads_back κs a r s p n q =
 
 pub join_accept_reads_back : Always build-join-accept.Learnt
     (λ κs a r s.
-    (n : ℕ) → r ≡ Frame n → AcceptReadsBack a.1.1.0 a.0 a.1.0.now (take n s.1.1.1.0.now))
+    (n : ℕ) → r ≡ Ok n → AcceptReadsBack a.1.1.0 a.0 a.1.0.now (take n s.1.1.1.0.now))
 join_accept_reads_back κs a r s p n q =
     let key = a.1.1.0 in
     let channels = a.1.0.now in

@@ -1,6 +1,9 @@
 -- MAC commands that are built into a data frame, in FOpts or on port 0, are read from it as those commands, at their places: said
 -- of every outcome that the builder's contract allows. A data frame that is not on port 0 has no list there.
 -- Assumes nothing.
+use Rattle.std.specs.Prelude.{is_some}
+use Rattle.mac_commands.specs.declared.in_frame.PayloadList.{PayloadList}
+use Rattle.std.specs.Prelude.{Err, None, Ok, Option, Some}
 use mathlib.Core.Path.{◌≡◌, refl, sym, ap, ap₂, ◌∙◌, subst}
 use mathlib.Core.Bool.{Bool, true, false}
 use mathlib.Core.List.{List, [], ◌++◌, append_assoc}
@@ -16,8 +19,6 @@ use Rattle.frame_bits.specs.Fctrl.{uplink_of}
 use Rattle.frame.specs.Layout.{mtype, fhdr_length_of, header_end_of, header, payload, payload_start_of, payload_end_of, mic_of}
 use Rattle.frame.specs.Reading.{port_of, held_by_of, payload_of, data_of, read_of}
 use Rattle.frame.specs.ReadingNumbers.{on_data}
-use Rattle.frame.specs.declared.parser.FPort.{FPort}
-use Rattle.frame.specs.declared.parser.FPort.TheVariants.{Absent, Port}
 use Rattle.frame.specs.declared.parser.FrmPayload.{FrmPayload}
 use Rattle.frame.specs.declared.parser.FrmPayload.TheVariants.{Data as PlainData, MacCommands}
 use Rattle.frame.proofs.LayoutLaws.{length-header, length-payload}
@@ -26,15 +27,13 @@ use Rattle.frame.proofs.ReadingLaws.{data_read}
 use Rattle.frame.proofs.ReadingSteps.{port_absent}
 use Rattle.frame_security.specs.Security.{frame_key}
 use Rattle.frame_security.proofs.SecurityLaws.{crypted_long}
-use Rattle.frame_opening.specs.FrameOpening.{Result, decrypted}
+use Rattle.frame_opening.specs.FrameOpening.{Outcome, decrypted}
 use Rattle.frame_build.specs.DataBuilding.{fopts_of, body_of, data_header}
-use Rattle.frame_build.specs.declared.creator.Built.TheVariants.{Frame}
 use Rattle.frame_build.specs.declared.creator.data_frame.DataParts.{DataParts}
 use Rattle.frame_build.proofs.creator.data_frame.build_data.Reads as build_data
-use Rattle.mac_commands.specs.InFrame.{on_port0, commands_from, commands_to, lists_of, in_frame_of, fopts_commands, payload_commands}
+use Rattle.mac_commands.specs.InFrame.{port_0_of, list_start, list_end, lists_of, in_frame_of, fopts_commands, payload_commands}
 use Rattle.mac_commands.specs.Lists.{list_at, bytes_all, Sent, no_more, placed, Output, write_all}
 use Rattle.mac_commands.specs.declared.in_frame.CommandLists.{CommandLists}
-use Rattle.mac_commands.specs.declared.in_frame.InFrame.TheVariants.{Lists, Refused as NoLists}
 use Rattle.mac_commands.specs.declared.maccommands.Command.{Command}
 use Rattle.mac_commands.proofs.ListLaws.{list_empty, list_back, all_written}
 use Rattle.theorems.specs.BuildingConditions.{NotPort0, absent, other}
@@ -59,46 +58,38 @@ stands up cs f a e m l z h =
 
 -- ---- a payload that is no list of commands
 
--- its list begins and ends at the MIC
-record NoList (p : FrmPayload) (mic : ℕ) : Type 0 where
-  pub none : on_port0 p ≡ false
-  pub start : commands_from p mic ≡ mic
-  pub end : commands_to p mic ≡ mic
-
-no_list : (port : FPort) (s e mic : ℕ) → NotPort0 port → NoList (held_by_of port s e) mic
-no_list port s e mic (absent q) =
-    subst (λ (t : FPort). NoList (held_by_of t s e) mic) (sym q) (record { none = refl; start = refl; end = refl })
-no_list port s e mic (other p q n) =
-    subst (λ (t : FPort). NoList (held_by_of t s e) mic) (sym q)
-    (subst (λ (b : Bool). NoList (pick b (MacCommands s e) (PlainData s e)) mic) (sym (ne_eqb p 0 n))
-    (record { none = refl; start = refl; end = refl }))
+no_list : (port : Option ℕ) (s e : ℕ) → NotPort0 port → port_0_of (held_by_of port s e) ≡ None
+no_list port s e (absent q) = ap (λ (t : Option ℕ). port_0_of (held_by_of t s e)) q
+no_list port s e (other p q n) =
+    ap (λ (t : Option ℕ). port_0_of (held_by_of t s e)) q
+    ∙ ap (λ (b : Bool). port_0_of (pick b (MacCommands s e) (PlainData s e))) (ne_eqb p 0 n)
 
 -- of any bytes g, by the lists of the frame f
 module _ (f g : List ℕ) (not_0 : NotPort0 (port_of f)) where
-  without : NoList (payload_of f) (length f - 4)
-  unfolding payload_of
-  without = no_list (port_of f) (payload_start_of f) (payload_end_of f) (length f - 4) not_0
+  without : (lists_of (data_of f)).port_0 ≡ None
+  unfolding lists_of data_of payload_of
+  without = no_list (port_of f) (payload_start_of f) (payload_end_of f) not_0
 
-  not_there : (lists_of (data_of f)).on_port_0 ≡ false
-  unfolding lists_of data_of
-  not_there = without.none
+  not_there : is_some (lists_of (data_of f)).port_0 ≡ false
+  not_there = ap (λ (l : Option PayloadList). is_some l) without
 
-  empty_there : payload_commands (lists_of (data_of f)) g ≡ listed (lists_of (data_of f)).payload_start []
-  unfolding lists_of data_of placed
+  empty_there : payload_commands (lists_of (data_of f)) g ≡ listed (list_start (lists_of (data_of f)).port_0) []
+  unfolding placed
   empty_there =
-      let e : commands_to (payload_of f) (length f - 4) ≡ commands_from (payload_of f) (length f - 4) = without.end ∙ sym without.start in
-      list_empty (uplink_of (mtype f)) (take (commands_to (payload_of f) (length f - 4)) g) (commands_from (payload_of f) (length f - 4))
-      (omega (arith, length-take (commands_to (payload_of f) (length f - 4)) g))
+      let up = (lists_of (data_of f)).uplink in
+      ap (λ (l : Option PayloadList). list_at up (take (list_end l) g) (list_start l)) without
+      ∙ list_empty up (take 0 g) 0 (omega (arith, length-take 0 g))
+      ∙ ap (λ (l : Option PayloadList). listed (list_start l) []) (sym without)
 
 -- a frame that is not on port 0 has no list there
-pub no_port_0 : (f : List ℕ) (l : CommandLists) → in_frame_of f ≡ Lists l → NotPort0 (port_of f)
-    → (l.on_port_0 ≡ false) × (payload_commands l f ≡ listed l.payload_start [])
+pub no_port_0 : (f : List ℕ) (l : CommandLists) → in_frame_of f ≡ Ok l → NotPort0 (port_of f)
+    → (is_some l.port_0 ≡ false) × (payload_commands l f ≡ listed (list_start l.port_0) [])
 no_port_0 f l e p =
     let its : l ≡ lists_of (data_of f) = ((lists_found f l).there e).1 in (
-      ap (λ (x : CommandLists). x.on_port_0) its ∙ not_there f f p,
+      ap (λ (x : CommandLists). is_some x.port_0) its ∙ not_there f f p,
       ap (λ (x : CommandLists). payload_commands x f) its
           ∙ empty_there f f p
-          ∙ ap (λ (x : CommandLists). listed x.payload_start []) (sym its),
+          ∙ ap (λ (x : CommandLists). listed (list_start x.port_0) []) (sym its),
     )
 
 -- ---- a frame that was built, with the bytes of the commands cs
@@ -111,17 +102,17 @@ up_back false true = refl
 up_back false false = refl
 
 -- where the commands go, by the port
-to_fopts : (port : FPort) (commands : List ℕ) → NotPort0 port → fopts_of port commands ≡ commands
-to_fopts port commands (absent e) = ap (λ (p : FPort). fopts_of p commands) e
+to_fopts : (port : (Option ℕ)) (commands : List ℕ) → NotPort0 port → fopts_of port commands ≡ commands
+to_fopts port commands (absent e) = ap (λ (p : Option ℕ). fopts_of p commands) e
 to_fopts port commands (other q e n) =
-    ap (λ (p : FPort). fopts_of p commands) e ∙ ap (λ (b : Bool). pick b [] commands) (ne_eqb q 0 n)
+    ap (λ (p : Option ℕ). fopts_of p commands) e ∙ ap (λ (b : Bool). pick b [] commands) (ne_eqb q 0 n)
 
 -- a port that is reported has its byte
-port_byte : (f : List ℕ) (q : ℕ) → port_of f ≡ Port q → fhdr_length_of f + 6 ≤ length f
+port_byte : (f : List ℕ) (q : ℕ) → port_of f ≡ Some q → fhdr_length_of f + 6 ≤ length f
 port_byte f q e =
     by_order (fhdr_length_of f + 6) (length f) (λ l. l)
     (λ l.
-    let none : port_of f ≡ Absent = port_absent f l in
+    let none : port_of f ≡ None = port_absent f l in
     apart (cc))
 
 -- a list between what stands before and after it
@@ -139,24 +130,24 @@ module _ (nwk app : List ℕ) (d : DataParts) (cs : List Command) (body f : List
 
   g_decrypted : g ≡ decrypted (frame_key f nwk app) d.fcnt f
   unfolding g
-  g_decrypted = ap (λ (r : Result). r.bytes) (opened_decrypted nwk app f d.fcnt is_data)
+  g_decrypted = ap (λ (r : Outcome). r.bytes) (opened_decrypted nwk app f d.fcnt is_data)
 
   g_parts : g ≡ data_header d (bytes_all cs) ++ (body_of d.port (bytes_all cs) body ++ mic_of f)
   unfolding g
-  g_parts = ap (λ (r : Result). r.bytes) b.opens.opens
+  g_parts = ap (λ (r : Outcome). r.bytes) b.opens.opens
 
   -- both have the same lists
   abbrev its : CommandLists
   its = lists_of (data_of f)
 
-  f_found : in_frame_of f ≡ Lists its
+  f_found : in_frame_of f ≡ Ok its
   unfolding in_frame_of
-  f_found = ap (on_data (λ x. Lists (lists_of x)) NoLists) b.back.reads
+  f_found = ap (on_data (λ x. Ok (lists_of x)) Err) b.back.reads
 
-  g_found : in_frame_of g ≡ Lists its
+  g_found : in_frame_of g ≡ Ok its
   unfolding in_frame_of
   g_found =
-      ap (on_data (λ x. Lists (lists_of x)) NoLists)
+      ap (on_data (λ x. Ok (lists_of x)) Err)
       (ap read_of g_decrypted ∙ decrypted_read (frame_key f nwk app) f d.fcnt is_data ∙ b.back.reads)
 
   upward : uplink_of (mtype f) ≡ d.uplink
@@ -190,16 +181,16 @@ module _ (nwk app : List ℕ) (d : DataParts) (cs : List Command) (body f : List
 
   -- none on another port
   other_port : NotPort0 d.port → NotPort0 (port_of f)
-  other_port p = subst (λ (t : FPort). NotPort0 t) (sym b.back.port) p
+  other_port p = subst (λ (t : Option ℕ). NotPort0 t) (sym b.back.port) p
 
   -- on port 0 those that were given
-  module _ (zero : d.port ≡ Port 0) where
+  module _ (zero : d.port ≡ Some 0) where
     as_body : body_of d.port (bytes_all cs) body ≡ bytes_all cs
-    as_body = ap (λ (p : FPort). body_of p (bytes_all cs) body) zero
+    as_body = ap (λ (p : Option ℕ). body_of p (bytes_all cs) body) zero
 
     no_fopts : fopts_of d.port (bytes_all cs) ≡ bytes_all []
     unfolding bytes_all
-    no_fopts = ap (λ (p : FPort). fopts_of p (bytes_all cs)) zero
+    no_fopts = ap (λ (p : Option ℕ). fopts_of p (bytes_all cs)) zero
 
     payload_long : length (payload f) ≡ length (bytes_all cs)
     payload_long =
@@ -209,18 +200,18 @@ module _ (nwk app : List ℕ) (d : DataParts) (cs : List Command) (body f : List
     header_long : length (data_header d (bytes_all cs)) ≡ header_end_of f
     header_long = sym (ap length b.back.header_back) ∙ length-header f
 
-    on_0 : port_of f ≡ Port 0
+    on_0 : port_of f ≡ Some 0
     on_0 = b.back.port ∙ zero
 
     held : payload_of f ≡ MacCommands (payload_start_of f) (payload_end_of f)
     unfolding payload_of
-    held = ap (λ (t : FPort). held_by_of t (payload_start_of f) (payload_end_of f)) on_0
+    held = ap (λ (t : Option ℕ). held_by_of t (payload_start_of f) (payload_end_of f)) on_0
 
-    there : its.on_port_0 ≡ true
+    there : is_some its.port_0 ≡ true
     unfolding lists_of data_of
-    there = ap on_port0 held
+    there = ap (λ (p : FrmPayload). is_some (port_0_of p)) held
 
-    all_held : payload_commands its g ≡ listed its.payload_start cs
+    all_held : payload_commands its g ≡ listed (list_start its.port_0) cs
     unfolding lists_of data_of
     all_held =
         let byte : fhdr_length_of f + 6 ≤ length f = port_byte f 0 on_0 in
@@ -234,10 +225,10 @@ module _ (nwk app : List ℕ) (d : DataParts) (cs : List Command) (body f : List
         let there : part (payload_start_of f) (length (bytes_all cs)) g ≡ bytes_all cs =
         ap₂ (λ (k : ℕ) (l : List ℕ). part k (length (bytes_all cs)) l) (sym (header_long ∙ start)) parts
         ∙ between (data_header d (bytes_all cs)) (bytes_all cs) (mic_of f) in
-        ap (λ (p : FrmPayload). list_at (uplink_of (mtype f)) (take (commands_to p (length f - 4)) g) (commands_from p (length f - 4))) held
+        ap (λ (p : FrmPayload). list_at (uplink_of (mtype f)) (take (list_end (port_0_of p)) g) (list_start (port_0_of p))) held
         ∙ ap (λ (u : Bool). list_at u (take (payload_end_of f) g) (payload_start_of f)) upward
         ∙ stands d.uplink cs g (payload_start_of f) (payload_end_of f) sent (omega (arith, header_long)) end there
-        ∙ ap (λ (p : FrmPayload). listed (commands_from p (length f - 4)) cs) (sym held)
+        ∙ ap (λ (p : FrmPayload). listed (list_start (port_0_of p)) cs) (sym held)
 
   commands_back : CommandsBack nwk app d cs f
   unfolding g
@@ -288,7 +279,7 @@ written_bytes up cs l i m h =
 -- and where the builder is given the bytes of commands in the frame's direction, they are read back
 pub commands_read_back : Always build_data.Learnt
     (λ κs a r s.
-    (n : ℕ) → r ≡ Frame n → (cs : List Command) → a.1.0.now ≡ bytes_all cs → Sent a.0.uplink cs
+    (n : ℕ) → r ≡ Ok n → (cs : List Command) → a.1.0.now ≡ bytes_all cs → Sent a.0.uplink cs
     → CommandsBack a.1.1.1.0 a.1.1.1.1.0 a.0 cs (take n s.1.1.1.1.1.0.now))
 commands_read_back κs a r s p n q cs e sent =
     let d = a.0 in

@@ -2,6 +2,7 @@
 -- its high nibble and the counter by its low half; its MIC is right; decrypting its payload gives the clear payload or
 -- commands. All of it holds since the frame's first eight bytes are written out and the lengths of its parts are known.
 -- Assumes nothing.
+use Rattle.std.specs.Prelude.{None, Ok, Option, Some}
 use mathlib.Core.Path.{◌≡◌, refl, sym, ap, ap₂, ◌∙◌}
 use mathlib.Core.Bool.{Bool, true, false}
 use mathlib.Core.List.{List, [], ◌∷◌, ◌++◌, append_assoc}
@@ -20,9 +21,7 @@ use Rattle.frame_build.specs.DataFrames.{data_frame_of}
 use Rattle.frame_build.specs.GivenParts.{DataGiven}
 use Rattle.frame_security.specs.Sealing.{enciphered, sealed}
 use Rattle.frame_security.specs.Security.{crypted, payload_key_of, frame_key, data_mic_of}
-use Rattle.frame.specs.declared.parser.FPort.{FPort}
-use Rattle.frame.specs.declared.parser.FPort.TheVariants.{Absent, Port}
-use Rattle.frame.specs.declared.parser.Reading.TheVariants.{Data}
+use Rattle.frame.specs.declared.parser.Frame.TheVariants.{Data}
 use Rattle.frame_build.specs.declared.creator.data_frame.DataParts.{DataParts}
 use Rattle.theorems.specs.ReadBack.{DataBack}
 use Rattle.frame_build.proofs.DataRefusals.{Buildable, accepted}
@@ -58,10 +57,10 @@ type_below false true = omega arith
 type_below false false = omega arith
 
 -- a port byte, or neither port nor payload
-port_or_none : (p : FPort) (commands body : List ℕ) → (is_absent p ≡ true → length body ≡ 0)
+port_or_none : (p : (Option ℕ)) (commands body : List ℕ) → (is_absent p ≡ true → length body ≡ 0)
     → (length (port_bytes p) ≡ 1) ⊎ ((length (port_bytes p) ≡ 0) × (length (body_of p commands body) ≡ 0))
-port_or_none Absent commands body h = inr (refl, h refl)
-port_or_none (Port q) commands body h = inl refl
+port_or_none None commands body h = inr (refl, h refl)
+port_or_none (Some q) commands body h = inl refl
 
 module _ (nwk app : List ℕ) (d : DataParts) (four : length d.dev_addr ≡ 4) (commands body : List ℕ) (room : ℕ)
     (ok : Buildable d commands body room) where
@@ -161,7 +160,7 @@ module _ (nwk app : List ℕ) (d : DataParts) (four : length d.dev_addr ≡ 4) (
         fits = omega (arith, f_long, h_long, fhdr);
       }
 
-  pub back_reads : read_of f ≡ Data (data_of f)
+  pub back_reads : read_of f ≡ Ok (Data (data_of f))
   back_reads = reads_data f is_data
 
   pub back_fopts : part 8 (length (fopts_of d.port commands)) f ≡ fopts_of d.port commands
@@ -216,32 +215,32 @@ module _ (nwk app : List ℕ) (d : DataParts) (four : length d.dev_addr ≡ 4) (
 
   -- ---- the port
 
-  back_port_byte : (q : ℕ) → d.port ≡ Port q → port_of f ≡ Port q
+  back_port_byte : (q : ℕ) → d.port ≡ Some q → port_of f ≡ Some q
   unfolding n p
   back_port_byte q e =
-      let one : length (port_bytes d.port) ≡ 1 = ap (λ (t : FPort). length (port_bytes t)) e in
+      let one : length (port_bytes d.port) ≡ 1 = ap (λ (t : (Option ℕ)). length (port_bytes t)) e in
       let i : 1 + fhdr_length_of f ≡ 8 + n = omega (arith, fhdr) in
       let v : fport f ≡ q =
       ap (at f) i
       ∙ ap (λ (t : List ℕ). at t (8 + n)) f_eight
       ∙ get_or-append-add (eight d n) ((fopts_of d.port commands ++ port_bytes d.port) ++ (c ++ m)) n 0
       ∙ ap (λ (t : List ℕ). at t n)
-      (ap (λ (t : FPort). (fopts_of d.port commands ++ port_bytes t) ++ (c ++ m)) e
+      (ap (λ (t : (Option ℕ)). (fopts_of d.port commands ++ port_bytes t) ++ (c ++ m)) e
       ∙ append_assoc (fopts_of d.port commands) (q ∷ []) (c ++ m))
       ∙ get_or-append_seam (fopts_of d.port commands) q (c ++ m) 0 in
-      port_there f (omega (arith, f_long, h_long, fhdr)) ∙ ap Port v
+      port_there f (omega (arith, f_long, h_long, fhdr)) ∙ ap Some v
 
-  back_no_port : d.port ≡ Absent → port_of f ≡ Absent
+  back_no_port : d.port ≡ None → port_of f ≡ None
   unfolding p
   back_no_port e =
-      let zero : length (port_bytes d.port) ≡ 0 = ap (λ (t : FPort). length (port_bytes t)) e in
+      let zero : length (port_bytes d.port) ≡ 0 = ap (λ (t : (Option ℕ)). length (port_bytes t)) e in
       let none : length body ≡ 0 = ok.without (ap is_absent e) in
-      let same : length (body_of d.port commands body) ≡ length body = ap (λ (t : FPort). length (body_of t commands body)) e in
+      let same : length (body_of d.port commands body) ≡ length body = ap (λ (t : (Option ℕ)). length (body_of t commands body)) e in
       port_absent f (omega (arith, f_long, h_long, fhdr))
 
-  by_port : (t : FPort) → d.port ≡ t → port_of f ≡ t
-  by_port Absent e = back_no_port e
-  by_port (Port q) e = back_port_byte q e
+  by_port : (t : (Option ℕ)) → d.port ≡ t → port_of f ≡ t
+  by_port None e = back_no_port e
+  by_port (Some q) e = back_port_byte q e
 
   -- it is reported as it was given, whatever stands behind it
   pub back_port : port_of f ≡ d.port
@@ -249,7 +248,7 @@ module _ (nwk app : List ℕ) (d : DataParts) (four : length d.dev_addr ≡ 4) (
 
   pub back_held : payload_of f ≡ held_by_of d.port (payload_start_of f) (payload_end_of f)
   unfolding payload_of
-  back_held = ap (λ (t : FPort). held_by_of t (payload_start_of f) (payload_end_of f)) back_port
+  back_held = ap (λ (t : (Option ℕ)). held_by_of t (payload_start_of f) (payload_end_of f)) back_port
 
 -- ---- the theorem
 

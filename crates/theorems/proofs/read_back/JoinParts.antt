@@ -2,6 +2,8 @@
 -- join-accept is read as one of its length; decrypted it is the clear bytes and their MIC, and the fields are those that were
 -- given, RxDelay modulo 16 and a list filled up with zeros to five. The clear bytes are written out, so each field computes.
 -- Assumes nothing.
+use Rattle.std.specs.Prelude.{Option, Some, None}
+use Rattle.std.specs.Prelude.{Ok}
 use mathlib.Core.Path.{◌≡◌, refl, sym, ap, ap₂, ◌∙◌}
 use mathlib.Core.Bool.{Bool, true, false}
 use mathlib.Core.List.{List, [], ◌∷◌, ◌++◌, append_assoc}
@@ -11,22 +13,22 @@ use native.Mathlib.Omega.{arith}
 use lib.Dec.{ltb}
 use lib.ListN.{length, take, length-append}
 use lib.Seq.{take_at, drop_at, take_all}
-use Rattle.base.specs.Bytes.{pick, at, tab, AreBytes, zeros}
+use Rattle.base.specs.Bytes.{pick, at, tab, AreBytes}
 use borrow.Author.Tests.{ltb-false}
 use Rattle.base.proofs.Cases.{by_bool}
 use Rattle.base.proofs.Parts.{bytes_append}
 use Rattle.base.proofs.Tab.{tab-at, tab_ext}
 use Rattle.frame.specs.Layout.{mtype, major, mic_of}
 use Rattle.frame.specs.Reading.{read_of}
-use Rattle.frame.specs.JoinFields.{request_fields_of, accept_fields_of, cf_list_of, frequencies_of, masks_of}
+use Rattle.frame.specs.JoinFields.{request_fields_of, accept_fields_of, cf_list_of}
 use Rattle.frame_build.specs.JoinBuilding.{accept_head_of, cf_list_bytes_of, too_high_of, join_accept_body, join_accept_length, join_accept_refusal_of, join_request_body}
 use Rattle.frame_build.specs.JoinFrames.{signed, join_request_of, join_accept_of}
 use Rattle.frame_build.specs.GivenParts.{AcceptGiven, RequestGiven}
 use Rattle.frame_security.specs.JoinAcceptCipher.{accept_decrypted}
 use Rattle.frame_security.specs.Security.{join_mic}
 use Rattle.frame.specs.declared.join_fields.CfList.{CfList}
-use Rattle.frame.specs.declared.join_fields.CfList.TheVariants.{Absent, Frequencies}
-use Rattle.frame.specs.declared.parser.Reading.TheVariants.{JoinRequest, JoinAccept}
+use Rattle.frame.specs.declared.join_fields.CfList.TheVariants.{Frequencies}
+use Rattle.frame.specs.declared.parser.Frame.TheVariants.{JoinRequest, JoinAccept}
 use Rattle.frame_build.specs.declared.creator.join.JoinAcceptParts.{JoinAcceptParts}
 use Rattle.frame_build.specs.declared.creator.join.JoinRequestParts.{JoinRequestParts}
 use Rattle.theorems.specs.ReadBack.{request_record, accept_record, listed_fields, built_fields}
@@ -62,7 +64,7 @@ module _ (key : List ℕ) (j : JoinRequestParts) (ha : length j.app_eui ≡ 8) (
   request_long : length (join_request_of key j) ≡ 23
   request_long = signed_long key (join_request_body j) ∙ ap (λ (n : ℕ). n + 4) (length_request j ha hd hn)
 
-  pub request_reads : read_of (join_request_of key j) ≡ JoinRequest
+  pub request_reads : read_of (join_request_of key j) ≡ (Ok JoinRequest)
   request_reads =
       reads_request (join_request_of key j)
       (record { version = ap major written; type = ap mtype written; long = request_long })
@@ -134,7 +136,7 @@ module _ (key : List ℕ) (j : JoinAcceptParts) (hn : length j.app_nonce ≡ 3) 
   unfolding body head
   first_byte = accept_first key (signed key (join_accept_body j channels)) some ∙ ap (λ (t : List ℕ). at t 0) written_accept
 
-  pub accept_reads : read_of (join_accept_of key j channels) ≡ JoinAccept (join_accept_length j)
+  pub accept_reads : read_of (join_accept_of key j channels) ≡ Ok (JoinAccept (join_accept_length j))
   unfolding body
   accept_reads =
       reads_accept (join_accept_of key j channels) (join_accept_length j)
@@ -155,7 +157,7 @@ module _ (key : List ℕ) (j : JoinAcceptParts) (hn : length j.app_nonce ≡ 3) 
       (join_mic_byte key (join_accept_body j channels) hk hb)) some
 
   -- and the clear bytes are read as a join-accept too
-  pub clear_reads : read_of (signed key (join_accept_body j channels)) ≡ JoinAccept (join_accept_length j)
+  pub clear_reads : read_of (signed key (join_accept_body j channels)) ≡ Ok (JoinAccept (join_accept_length j))
   unfolding body head
   clear_reads =
       reads_accept (signed key (join_accept_body j channels)) (join_accept_length j)
@@ -176,41 +178,40 @@ module _ (key : List ℕ) (j : JoinAcceptParts) (hn : length j.app_nonce ≡ 3) 
   mic_is = tab-at (join_mic key (join_accept_body j channels)) 4 (join_mic_long key (join_accept_body j channels))
 
   -- the three arrays, written out, are those that were given
-  as_given : (l : CfList) (fs : List ℕ)
-      → accept_record j (tab 3 (at j.app_nonce)) (tab 3 (at j.net_id)) (tab 4 (at j.dev_addr)) l fs
-      ≡ accept_record j j.app_nonce j.net_id j.dev_addr l fs
-  as_given l fs =
-      ap₂ (λ (n i : List ℕ). accept_record j n i (tab 4 (at j.dev_addr)) l fs) (sym (tab-at j.app_nonce 3 hn))
+  as_given : (l : Option CfList)
+      → accept_record j (tab 3 (at j.app_nonce)) (tab 3 (at j.net_id)) (tab 4 (at j.dev_addr)) l
+      ≡ accept_record j j.app_nonce j.net_id j.dev_addr l
+  as_given l =
+      ap₂ (λ (n i : List ℕ). accept_record j n i (tab 4 (at j.dev_addr)) l) (sym (tab-at j.app_nonce 3 hn))
       (sym (tab-at j.net_id 3 hi))
-      ∙ ap (λ (a : List ℕ). accept_record j j.app_nonce j.net_id a l fs) (sym (tab-at j.dev_addr 4 ha))
+      ∙ ap (λ (a : List ℕ). accept_record j j.app_nonce j.net_id a l) (sym (tab-at j.dev_addr 4 ha))
 
   -- without a list
   pub accept_back_none : j.with_c_f_list ≡ false
       → accept_fields_of (signed key (join_accept_body j channels)) ≡ listed_fields j channels false
-  unfolding accept_fields_of cf_list_of frequencies_of masks_of body head mic
+  unfolding accept_fields_of cf_list_of body head mic
   accept_back_none w =
       let e : signed key (join_accept_body j channels) ≡ head ++ mic =
       written_accept ∙ ap₂ (λ (b : Bool) (t : List ℕ). head ++ (pick b (cf_list_bytes_of channels) [] ++ t)) w mic_is in
-      ap accept_fields_of e ∙ as_given Absent (zeros 5)
+      ap accept_fields_of e ∙ as_given None
 
   -- with one: five channels, absent ones 0
   pub accept_back_list : j.with_c_f_list ≡ true → too_high_of channels ≡ false
       → accept_fields_of (signed key (join_accept_body j channels)) ≡ listed_fields j channels true
-  unfolding accept_fields_of cf_list_of frequencies_of masks_of body head mic cf_list_bytes_of
+  unfolding accept_fields_of cf_list_of body head mic cf_list_bytes_of
   accept_back_list w h =
       let e : signed key (join_accept_body j channels) ≡ head ++ (cf_list_bytes_of channels ++ mic) =
       written_accept ∙ ap₂ (λ (b : Bool) (t : List ℕ). head ++ (pick b (cf_list_bytes_of channels) [] ++ t)) w mic_is in
       ap accept_fields_of e
-      ∙ as_given Frequencies
-      (tab 5 (λ i. at channels i % 256 + at channels i / 256 % 256 * 256 + at channels i / 65536 % 256 * 65536))
-      ∙ ap (accept_record j j.app_nonce j.net_id j.dev_addr Frequencies)
+      ∙ as_given (Some (Frequencies (tab 5 (λ i. at channels i % 256 + at channels i / 256 % 256 * 256 + at channels i / 65536 % 256 * 65536))))
+      ∙ ap (λ (q : List ℕ). accept_record j j.app_nonce j.net_id j.dev_addr (Some (Frequencies q)))
       (tab_ext 5 (λ i. at channels i % 256 + at channels i / 256 % 256 * 256 + at channels i / 65536 % 256 * 65536) (at channels)
       (λ i l. three_bytes (at channels i) (fits channels h i)))
 
 -- ---- the theorems
 
 pub record RequestBack (key : List ℕ) (j : JoinRequestParts) (f : List ℕ) : Type 0 where
-  pub reads : read_of f ≡ JoinRequest
+  pub reads : read_of f ≡ (Ok JoinRequest)
   pub fields : request_fields_of f
       ≡ request_record j.app_eui j.dev_eui j.dev_nonce (join_mic key (join_request_body j))
   pub mic : mic_of f ≡ join_mic key (take (length f - 4) f)
@@ -225,10 +226,10 @@ join_request_back key j g =
 
 -- f is what was built, g what a device's decryption makes of it
 pub record AcceptBack (key : List ℕ) (j : JoinAcceptParts) (channels f g : List ℕ) : Type 0 where
-  pub reads : read_of f ≡ JoinAccept (join_accept_length j)
+  pub reads : read_of f ≡ Ok (JoinAccept (join_accept_length j))
   pub clear : g ≡ signed key (join_accept_body j channels)
   pub mic : mic_of g ≡ join_mic key (take (length g - 4) g)
-  pub clear_reads : read_of g ≡ JoinAccept (join_accept_length j)
+  pub clear_reads : read_of g ≡ Ok (JoinAccept (join_accept_length j))
   pub fields : accept_fields_of g ≡ built_fields j channels
 
 pub join_accept_back : (key : List ℕ) (j : JoinAcceptParts) → AcceptGiven key j → (channels : List ℕ) (room : ℕ)

@@ -1,30 +1,29 @@
 -- Laws on openings: decrypting a data frame leaves every byte outside the payload, and so the reading, as it was, and done twice
 -- gives the frame back.
 -- Assumes nothing.
+use Rattle.std.specs.Prelude.{Some, None}
+use Rattle.std.specs.Prelude.{Err, Ok, Option}
 use mathlib.Core.Path.{◌≡◌, refl, sym, ap, ap₂, ◌∙◌}
-use mathlib.Core.Bool.{true, false}
 use mathlib.Core.List.{List}
 use Prim.Native.Nat.{ℕ, ◌+◌, ◌-◌, ◌*◌, ◌%◌, ◌≤◌, ◌<◌, min}
 use native.Mathlib.Omega.{arith}
 use lib.ListN.{length, take, drop}
 use lib.Seq.{get_or-take, get_or-drop}
 use Rattle.base.specs.Bytes.{at, part}
-use Rattle.base.proofs.Cases.{by_bool, by_order}
+use Rattle.base.proofs.Cases.{by_order}
 use Rattle.base.proofs.Lent.{part_long, put_before, put_after}
 use Rattle.frame.specs.Conditions.{IsData}
 use Rattle.frame.specs.Layout.{fcnt, header, header_end_of, payload, payload_end_of, mic_of}
 use Rattle.frame.specs.Refusals.{refused}
 use Rattle.frame.specs.declared.refusals.Refusal.{Refusal}
 use Rattle.frame.specs.ReadingNumbers.{on_data}
-use Rattle.frame_opening.specs.FrameOpening.{Result, unopened, decrypted, opened_under, data_opened}
+use Rattle.frame_opening.specs.FrameOpening.{Outcome, unopened, decrypted, opened_under, data_opened}
 use Rattle.frame.specs.Reading.{read_of}
 use Rattle.frame_security.specs.Security.{crypted, crypted_part, payload_key_of, frame_key, full_counter_of}
-use Rattle.frame.specs.declared.keys.MaybeKey.{MaybeKey}
 use Rattle.frame.specs.declared.parser.DataFrame.{DataFrame}
-use Rattle.frame.specs.declared.parser.Reading.{Reading}
-use Rattle.frame.specs.declared.parser.Reading.TheVariants.{JoinRequest, JoinAccept, Data, Refused}
+use Rattle.frame.specs.Reading.{Reading}
+use Rattle.frame.specs.declared.parser.Frame.TheVariants.{JoinRequest, JoinAccept, Data}
 use Rattle.frame.proofs.LayoutLaws.{placed, length-payload, read_same}
-use Rattle.frame_opening.proofs.OpeningLaws.{pick_true, pick_false}
 use Rattle.frame.proofs.ReadingLaws.{data_read}
 use Rattle.frame_security.proofs.SecurityLaws.{crypted_long, crypted_part_long, crypted_part_twice}
 
@@ -102,27 +101,32 @@ module _ (key f : List ℕ) (counter : ℕ) (h : IsData f) where
       ∙ ap₂ (λ (a b : ℕ). crypted_part key g (full_counter_of counter (fcnt f)) a b) start end
       ∙ crypted_part_twice key f (full_counter_of counter (fcnt f)) (header_end_of f) (payload_end_of f) (omega arith) order inside
 
+-- a key that may not be given, by cases
+by_key : {A : Type 0} (k : Option (List ℕ)) → (k ≡ None → A) → ((key : List ℕ) → k ≡ Some key → A) → A
+by_key None n s = n refl
+by_key (Some key) n s = s key refl
+
 -- opening twice gives the frame back, whatever the first answer
-module _ (nwk app : MaybeKey) (counter : ℕ) (f : List ℕ) where
-  open_once : List ℕ → Result
+module _ (nwk app : Option (List ℕ)) (counter : ℕ) (f : List ℕ) where
+  open_once : List ℕ → Outcome
   open_once = data_opened nwk app counter
 
   refused_twice : (r : Refusal) → open_once f ≡ unopened f r → (open_once (open_once f).bytes).bytes ≡ f
   refused_twice r e =
-      let same : (open_once f).bytes ≡ f = ap (λ (r : Result). r.bytes) e in
+      let same : (open_once f).bytes ≡ f = ap (λ (r : Outcome). r.bytes) e in
       ap (λ (g : List ℕ). (open_once g).bytes) same ∙ same
 
-  opens : (g : List ℕ) (d : DataFrame) → read_of g ≡ Data d → open_once g ≡ opened_under (frame_key g nwk app) counter g
+  opens : (g : List ℕ) (d : DataFrame) → read_of g ≡ Ok (Data d) → open_once g ≡ opened_under (frame_key g nwk app) counter g
   unfolding open_once data_opened
   opens g d q = ap (on_data (λ b. opened_under (frame_key g nwk app) counter g) (unopened g)) q
 
-  opened_bytes : (k : MaybeKey) (g : List ℕ) → k.given ≡ true → (opened_under k counter g).bytes ≡ decrypted k.key counter g
+  opened_bytes : (k : Option (List ℕ)) (key g : List ℕ) → k ≡ Some key → (opened_under k counter g).bytes ≡ decrypted key counter g
   unfolding opened_under
-  opened_bytes k g t = ap (λ (r : Result). r.bytes) (pick_true k.given _ _ t)
+  opened_bytes k key g t = ap (λ (m : Option (List ℕ)). (opened_under m counter g).bytes) t
 
-  not_opened : (k : MaybeKey) (g : List ℕ) → k.given ≡ false → opened_under k counter g ≡ unopened g (refused 6)
+  not_opened : (k : Option (List ℕ)) (g : List ℕ) → k ≡ None → opened_under k counter g ≡ unopened g (refused 6)
   unfolding opened_under
-  not_opened k g t = pick_false k.given _ _ t
+  not_opened k g t = ap (λ (m : Option (List ℕ)). opened_under m counter g) t
 
   -- a decrypted frame has the same key
   same_key : (key : List ℕ) → IsData f → frame_key (decrypted key counter f) nwk app ≡ frame_key f nwk app
@@ -138,29 +142,29 @@ module _ (nwk app : MaybeKey) (counter : ℕ) (f : List ℕ) where
       ∙ sym (length-payload f) in
       ap₂ (λ (l : List ℕ) (n : ℕ). payload_key_of l n nwk app) hdr long
 
-  data_twice : (d : DataFrame) → read_of f ≡ Data d → (open_once (open_once f).bytes).bytes ≡ f
+  data_twice : (d : DataFrame) → read_of f ≡ Ok (Data d) → (open_once (open_once f).bytes).bytes ≡ f
   data_twice d q =
       let k = frame_key f nwk app in
-      by_bool k.given
-      (λ t.
-      let h : IsData f = data_read f q in
-      let g = decrypted k.key counter f in
-      let once : (open_once f).bytes ≡ g = ap (λ (r : Result). r.bytes) (opens f d q) ∙ opened_bytes k f t in
-      ap (λ (l : List ℕ). (open_once l).bytes) once
-      ∙ ap (λ (r : Result). r.bytes) (opens g d (decrypted_read k.key f counter h ∙ q))
-      ∙ ap (λ (m : MaybeKey). (opened_under m counter g).bytes) (same_key k.key h)
-      ∙ opened_bytes k g t
-      ∙ decrypted_twice k.key f counter h)
+      by_key k
       (λ t. refused_twice (refused 6) (opens f d q ∙ not_opened k f t))
+      (λ key t.
+      let h : IsData f = data_read f q in
+      let g = decrypted key counter f in
+      let once : (open_once f).bytes ≡ g = ap (λ (r : Outcome). r.bytes) (opens f d q) ∙ opened_bytes k key f t in
+      ap (λ (l : List ℕ). (open_once l).bytes) once
+      ∙ ap (λ (r : Outcome). r.bytes) (opens g d (decrypted_read key f counter h ∙ q))
+      ∙ ap (λ (m : Option (List ℕ)). (opened_under m counter g).bytes) (same_key key h)
+      ∙ opened_bytes k key g t
+      ∙ decrypted_twice key f counter h)
 
   other_twice : (r : Reading) → read_of f ≡ r → (open_once (open_once f).bytes).bytes ≡ f
   unfolding open_once data_opened
-  other_twice JoinRequest q =
+  other_twice (Ok JoinRequest) q =
       refused_twice (refused 4) (ap (on_data (λ b. opened_under (frame_key f nwk app) counter f) (unopened f)) q)
-  other_twice (JoinAccept n) q =
+  other_twice (Ok (JoinAccept n)) q =
       refused_twice (refused 4) (ap (on_data (λ b. opened_under (frame_key f nwk app) counter f) (unopened f)) q)
-  other_twice (Data d) q = data_twice d q
-  other_twice (Refused r) q =
+  other_twice (Ok (Data d)) q = data_twice d q
+  other_twice (Err r) q =
       refused_twice r (ap (on_data (λ b. opened_under (frame_key f nwk app) counter f) (unopened f)) q)
 
   pub opened_twice : (data_opened nwk app counter (data_opened nwk app counter f).bytes).bytes ≡ f

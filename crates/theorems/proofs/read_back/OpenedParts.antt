@@ -1,6 +1,8 @@
 -- Opening a data frame with both keys given leaves its header, its payload decrypted under the frame's key, and its MIC: the
 -- same three parts that sealing puts together.
 -- Assumes nothing.
+use Rattle.std.specs.Prelude.{Some}
+use Rattle.std.specs.Prelude.{Ok, Option}
 use mathlib.Core.Path.{◌≡◌, refl, sym, ap, ◌∙◌}
 use mathlib.Core.Bool.{Bool, true, false}
 use mathlib.Core.List.{List, ◌++◌, append_assoc}
@@ -12,16 +14,14 @@ use Rattle.base.specs.Bytes.{pick}
 use Rattle.frame.specs.Conditions.{IsData}
 use Rattle.frame.specs.Layout.{fcnt, header, header_end_of, payload, mic_of}
 use Rattle.frame.specs.ReadingNumbers.{on_data}
-use Rattle.frame.specs.declared.keys.MaybeKey.{MaybeKey}
 use Rattle.frame.proofs.LayoutLaws.{placed}
 use Rattle.frame.proofs.ReadingLaws.{reads_data}
 use Rattle.frame_security.specs.Security.{crypted, crypted_part, by_network_key_of, frame_key, full_counter_of}
 use Rattle.frame_security.proofs.SecurityLaws.{crypted_same}
-use Rattle.frame_opening.specs.FrameOpening.{outcome, unopened, decrypted, opened_under, data_opened, given_key}
-use Rattle.frame_opening.specs.declared.payload.Opening.TheVariants.{Opened}
+use Rattle.frame_opening.specs.FrameOpening.{outcome, unopened, decrypted, opened_under, data_opened}
 
 -- of two keys that are given, the one that a test picks is given, and is the key that the test picks
-picked_given : (t : Bool) (a b : List ℕ) → pick t (given_key a) (given_key b) ≡ given_key (pick t a b)
+picked_given : (t : Bool) (a b : List ℕ) → pick t (Some a) (Some b) ≡ Some (pick t a b)
 picked_given true a b = refl
 picked_given false a b = refl
 
@@ -40,18 +40,18 @@ module _ (nwk app f : List ℕ) (counter : ℕ) (h : IsData f) where
       (full_counter_of counter (fcnt f)) (payload f)
 
   -- both keys given: the frame with its payload decrypted
-  pub opened_decrypted : data_opened (given_key nwk) (given_key app) counter f ≡ outcome Opened (decrypted key counter f)
+  pub opened_decrypted : data_opened (Some nwk) (Some app) counter f ≡ outcome (Ok tt) (decrypted key counter f)
   unfolding data_opened opened_under
   opened_decrypted =
-      ap (on_data (λ d. opened_under (frame_key f (given_key nwk) (given_key app)) counter f) (unopened f)) (reads_data f h)
-      ∙ ap (λ (k : MaybeKey). opened_under k counter f) (picked_given (by_network_key_of (header f) (length (payload f))) nwk app)
+      ap (on_data (λ d. opened_under (frame_key f (Some nwk) (Some app)) counter f) (unopened f)) (reads_data f h)
+      ∙ ap (λ (k : (Option (List ℕ))). opened_under k counter f) (picked_given (by_network_key_of (header f) (length (payload f))) nwk app)
 
   -- which is header, clear payload, MIC
-  pub opened_both : data_opened (given_key nwk) (given_key app) counter f
-      ≡ outcome Opened (header f ++ (clear_payload ++ mic_of f))
+  pub opened_both : data_opened (Some nwk) (Some app) counter f
+      ≡ outcome (Ok tt) (header f ++ (clear_payload ++ mic_of f))
   unfolding decrypted crypted_part
   opened_both =
       opened_decrypted
-      ∙ ap (outcome Opened)
+      ∙ ap (outcome (Ok tt))
       (append_assoc (header f) (crypted key f (full_counter_of counter (fcnt f)) (payload f)) (mic_of f)
       ∙ ap (λ (s : List ℕ). header f ++ (s ++ mic_of f)) clear_is)

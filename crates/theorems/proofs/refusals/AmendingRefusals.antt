@@ -1,6 +1,9 @@
 -- Opening for amendments, amending, alone and by a list, and taking a frame out refuse exactly where they are to (docs/RULES.md,
 -- Refusals). Amending is said of every state, also one that no call made, and so of every buffer that holds one.
 -- Assumes nothing.
+use Rattle.frame.specs.Refusals.{by_result}
+use Rattle.std.specs.Prelude.{Result, Ok, Err}
+use Rattle.frame.specs.Refusals.{refusal_in}
 use mathlib.Core.Path.{◌≡◌, refl, sym, ap, ap₂, ◌∙◌, subst}
 use mathlib.Core.Bool.{Bool, true, false, not}
 use mathlib.Core.List.{List, [], ◌∷◌}
@@ -8,7 +11,7 @@ use Prim.Native.Nat.{ℕ, suc, ◌/◌, ◌%◌, ◌≤◌, ◌<◌}
 use native.Mathlib.Omega.{arith}
 use lib.Dec.{T, eqb, leb, ltb}
 use lib.ListN.{length}
-use borrow.Author.Tests.{ltb-false, le-ltb, ne_eqb}
+use borrow.Author.Tests.{ltb-false, le-ltb}
 use Rattle.base.specs.Bytes.{pick, at}
 use Rattle.frame.specs.Conditions.{IsData}
 use Rattle.frame.specs.Layout.{fcnt, payload, mic_of}
@@ -19,15 +22,13 @@ use Rattle.frame_security.specs.Security.{covered, data_mic_of}
 use Rattle.frame_security.proofs.MicCompared.{same_of_test, test_of_same}
 use Rattle.amend.specs.Amending.{payload_length_of, amended_to, amend_of}
 use Rattle.amend.specs.AmendmentLists.{amended_by, decoded_all, amend_all_of, amend_frame_of}
-use Rattle.amend.specs.OpenFrame.{opened_of, accepted_opening, refused_opening, open_checked_of, open_data, open_of}
+use Rattle.amend.specs.OpenFrame.{opened_of, open_checked_of, open_data, open_of}
 use Rattle.amend.specs.SignedOnce.{all_inside_of, amend_list_of}
-use Rattle.amend.specs.declared.amending.Amended.{Amended}
+use Rattle.amend.specs.Amending.{Amended}
 use Rattle.amend.specs.declared.amending.Open.{Open}
-use Rattle.amend.specs.declared.opening.Opened.{Opened}
 use Rattle.amend.proofs.OneByte.{payload_count}
 use Rattle.amend.proofs.SignedOnce.{list_alike}
 use Rattle.amend_held.specs.HeldCalls.{taken_of}
-use Rattle.amend_held.specs.declared.calls.Taken.{Taken}
 use Rattle.theorems.specs.Exactly.{Exactly, Condition, ◌when◌, ◌unless◌, Refuses}
 use Rattle.theorems.specs.ByReading.{data_frame, AfterReading}
 use Rattle.theorems.specs.OpeningConditions.{RightDataMic}
@@ -65,19 +66,19 @@ if_outside count es =
 -- ---- opening
 
 -- what a call makes of an opening, h, past both tests: as it is where the opening is refused
-module _ (f nwk app : List ℕ) (counter : ℕ) (h : Opened → Refusal)
-    (keeps : (n : ℕ) → h (refused_opening (refused (suc n))) ≡ refused (suc n)) where
+module _ (f nwk app : List ℕ) (counter : ℕ) (h : Result Open Refusal → Refusal)
+    (keeps : (n : ℕ) → h (Err (refused (suc n))) ≡ refused (suc n)) where
   opened_gives : {cs : List Condition} → T (fresh 14 (5 unless RightDataMic nwk counter f ∷ cs)) → T (fresh 5 cs)
-      → Gives refused cs (h (accepted_opening (opened_of f nwk app counter)))
+      → Gives refused cs (h (Ok (opened_of f nwk app counter)))
       → Gives refused (open_then nwk counter f cs) (h (open_data f nwk app counter))
   unfolding open_data open_checked_of
   opened_gives {cs} new-14 new-5 g =
       let low = eqb (counter % 65536) (fcnt f) in
       let right = same_bytes (data_mic_of nwk (covered f) counter) (mic_of f) in
-      let opened = accepted_opening (opened_of f nwk app counter) in
+      let opened = Ok (opened_of f nwk app counter) in
       let path : h (open_data f nwk app counter) ≡ pick low (pick right (h opened) (refused 5)) (refused 14) =
-      through h low (pick right opened (refused_opening (refused 5))) (refused_opening (refused 14))
-      ∙ ap (λ (r : Refusal). pick low r (h (refused_opening (refused 14)))) (through h right opened (refused_opening (refused 5)))
+      through h low (pick right opened (Err (refused 5))) (Err (refused 14))
+      ∙ ap (λ (r : Refusal). pick low r (h (Err (refused 14)))) (through h right opened (Err (refused 5)))
       ∙ ap₂ (λ (r s : Refusal). pick low (pick right (h opened) r) s) (keeps 4) (keeps 13) in
       subst (λ (r : Refusal). Gives refused (open_then nwk counter f cs) r) (sym path)
       (past new-14 low (if_unless low (if_equal (counter % 65536) (fcnt f)))
@@ -85,111 +86,111 @@ module _ (f nwk app : List ℕ) (counter : ℕ) (h : Opened → Refusal)
 
 module _ (f nwk app : List ℕ) (counter : ℕ) where
   -- reading, 14, 5
-  pub opening : AfterReading (λ r. r) refused data_frame f (open_conditions nwk counter f) (open_of f nwk app counter).refusal
+  pub opening : AfterReading (λ r. r) refused data_frame f (open_conditions nwk counter f) (refusal_in (open_of f nwk app counter))
   unfolding open_of
   opening =
-      rw (on_through (λ (o : Opened). o.refusal) data_frame f (open_data f nwk app counter) refused_opening (λ r. r) (λ r n. refl))
-      (refusal_after data_frame f (λ i. opened_gives f nwk app counter (λ o. o.refusal) (λ n. refl) tt tt nothing_left))
+      rw (on_through refusal_in data_frame f (open_data f nwk app counter) Err (λ r. r) (λ r n. refl))
+      (refusal_after data_frame f (λ i. opened_gives f nwk app counter refusal_in (λ n. refl) tt tt nothing_left))
 
 -- ---- amending an open frame, in every state
 
 -- 15
-pub amending : (s : Open) (k v : ℕ) → Refuses (amend_conditions s k) (amend_of s k v).refusal
+pub amending : (s : Open) (k v : ℕ) → Refuses (amend_conditions s k) (refusal_in (amend_of s k v).answer)
 unfolding amend_of
 amending s k v =
     let inside = ltb k (payload_length_of s) in
-    rw (through (λ (a : Amended). a.refusal) inside (record { refusal = not_refused; state = amended_to s k v }) (record { refusal = refused 15; state = s }))
+    rw (through (λ (a : Amended). refusal_in a.answer) inside (record { answer = Ok tt; state = amended_to s k v }) (record { answer = Err (refused 15); state = s }))
     (refuses (past tt inside (if_unless inside (if_below k (payload_length_of s))) nothing_left))
 
 -- a list of amendments, by the test of all its offsets
-list_gives : (s : Open) (es : List ℕ) → Gives refused (list_conditions s es) (amend_list_of s es).refusal
+list_gives : (s : Open) (es : List ℕ) → Gives refused (list_conditions s es) (refusal_in (amend_list_of s es).answer)
 unfolding amend_list_of
 list_gives s es =
     let inside = all_inside_of (payload_length_of s) es in
-    rw (through (λ (a : Amended). a.refusal) inside (record { refusal = not_refused; state = amended_by s (decoded_all es) }) (record { refusal = refused 15; state = s }))
+    rw (through (λ (a : Amended). refusal_in a.answer) inside (record { answer = Ok tt; state = amended_by s (decoded_all es) }) (record { answer = Err (refused 15); state = s }))
     (past tt inside (if_when (not inside) (if_outside (payload_length_of s) es)) nothing_left)
 
 -- 15
-pub amending_list : (s : Open) (es : List ℕ) → Refuses (list_conditions s es) (amend_list_of s es).refusal
+pub amending_list : (s : Open) (es : List ℕ) → Refuses (list_conditions s es) (refusal_in (amend_list_of s es).answer)
 amending_list s es = refuses (list_gives s es)
 
 -- ---- a frame that is lent as bytes
 
 module _ (f nwk app : List ℕ) (counter : ℕ) (es : List ℕ) where
   -- the opening's refusal, or that of the list
-  then_list : Opened → Refusal
-  then_list o = pick (eqb o.refusal.number 0) (amend_all_of o.state es).refusal o.refusal
+  then_list : Result Open Refusal → Refusal
+  then_list o = refusal_in (by_result (λ s. (amend_all_of s es).answer) Err o)
 
   -- a refused opening refuses the call
-  refused_first : (r : Refusal) → (r.number ≡ 0 → ⊥) → then_list (refused_opening r) ≡ r
+  refused_first : (r : Refusal) → (r.number ≡ 0 → ⊥) → then_list (Err r) ≡ r
   unfolding then_list
-  refused_first r n = ap (λ (b : Bool). pick b (amend_all_of (refused_opening r).state es).refusal r) (ne_eqb r.number 0 n)
+  refused_first r n = refl
 
   -- past the opening it goes by the list, in the payload of the frame
-  list_then : IsData f → Gives refused (15 when Outside (length (payload f)) es ∷ []) (then_list (accepted_opening (opened_of f nwk app counter)))
+  list_then : IsData f → Gives refused (15 when Outside (length (payload f)) es ∷ []) (then_list (Ok (opened_of f nwk app counter)))
   unfolding then_list
   list_then i =
       let s = opened_of f nwk app counter in
-      subst (λ (r : Refusal). Gives refused (15 when Outside (length (payload f)) es ∷ []) r) (list_alike s es).refusal
-      (subst (λ (n : ℕ). Gives refused (15 when Outside n es ∷ []) (amend_list_of s es).refusal) (payload_count f nwk app counter i)
+      subst (λ (r : Result (Unit {0}) Refusal). Gives refused (15 when Outside (length (payload f)) es ∷ []) (refusal_in r)) (list_alike s es).answer
+      (subst (λ (n : ℕ). Gives refused (15 when Outside n es ∷ []) (refusal_in (amend_list_of s es).answer)) (payload_count f nwk app counter i)
       (list_gives s es))
 
   -- reading, 14, 5, 15
-  pub amending_frame : AfterReading (λ r. r) refused data_frame f (frame_conditions nwk counter f es) (amend_frame_of f nwk app counter es)
+  pub amending_frame : AfterReading (λ r. r) refused data_frame f (frame_conditions nwk counter f es) (refusal_in (amend_frame_of f nwk app counter es))
   unfolding amend_frame_of open_of then_list
   amending_frame =
-      rw (on_through then_list data_frame f (open_data f nwk app counter) refused_opening (λ r. r) refused_first)
+      rw (on_through then_list data_frame f (open_data f nwk app counter) Err (λ r. r) refused_first)
       (refusal_after data_frame f
       (λ i. opened_gives f nwk app counter then_list (λ n. refused_first (refused (suc n)) (λ e. omega arith)) tt tt (list_then i)))
 
 -- ---- taking the frame out: 7
 
-pub taking : (s : Open) (room : ℕ) → Refuses (taken_conditions s room) (taken_of s room).refusal
+pub taking : (s : Open) (room : ℕ) → Refuses (taken_conditions s room) (refusal_in (taken_of s room))
 unfolding taken_of
 taking s room =
     let fits = leb s.length room in
-    rw (through (λ (t : Taken). t.refusal) fits (record { refusal = not_refused; length = s.length }) (record { refusal = refused 7; length = 0 }))
+    rw (through refusal_in fits (Ok s.length) (Err (refused 7)))
     (refuses (past tt fits (if_unless fits (if_most s.length room)) nothing_left))
 
 -- ---- the numbers of them and what is accepted, written out
 
 module _ (f nwk app : List ℕ) (counter : ℕ) where
-  pub open_14 : Exactly ((open_of f nwk app counter).refusal ≡ refused 14) (IsData f × (counter % 65536 ≡ fcnt f → ⊥))
+  pub open_14 : Exactly (refusal_in (open_of f nwk app counter) ≡ refused 14) (IsData f × (counter % 65536 ≡ fcnt f → ⊥))
   open_14 = (opening f nwk app counter).own 14 tt
 
-  pub open_5 : Exactly ((open_of f nwk app counter).refusal ≡ refused 5)
+  pub open_5 : Exactly (refusal_in (open_of f nwk app counter) ≡ refused 5)
       (IsData f × ((counter % 65536 ≡ fcnt f) × (RightDataMic nwk counter f → ⊥)))
   open_5 = (opening f nwk app counter).own 5 tt
 
-  pub open_accepted : Exactly ((open_of f nwk app counter).refusal ≡ not_refused)
+  pub open_accepted : Exactly (refusal_in (open_of f nwk app counter) ≡ not_refused)
       (IsData f × ((counter % 65536 ≡ fcnt f) × RightDataMic nwk counter f))
   open_accepted = with_none (open_conditions nwk counter f) tt ((opening f nwk app counter).own 0 tt)
 
   pub frame_15 : (es : List ℕ)
-      → Exactly (amend_frame_of f nwk app counter es ≡ refused 15)
+      → Exactly (refusal_in (amend_frame_of f nwk app counter es) ≡ refused 15)
       (IsData f × ((counter % 65536 ≡ fcnt f) × (RightDataMic nwk counter f × Outside (length (payload f)) es)))
   frame_15 es = (amending_frame f nwk app counter es).own 15 tt
 
   pub frame_accepted : (es : List ℕ)
-      → Exactly (amend_frame_of f nwk app counter es ≡ not_refused)
+      → Exactly (refusal_in (amend_frame_of f nwk app counter es) ≡ not_refused)
       (IsData f × ((counter % 65536 ≡ fcnt f) × (RightDataMic nwk counter f × (Outside (length (payload f)) es → ⊥))))
   frame_accepted es = with_none (frame_conditions nwk counter f es) tt ((amending_frame f nwk app counter es).own 0 tt)
 
 module _ (s : Open) where
-  pub amend_15 : (k v : ℕ) → Exactly ((amend_of s k v).refusal ≡ refused 15) (k < payload_length_of s → ⊥)
+  pub amend_15 : (k v : ℕ) → Exactly (refusal_in (amend_of s k v).answer ≡ refused 15) (k < payload_length_of s → ⊥)
   amend_15 k v = (amending s k v).exactly 15
 
-  pub amend_accepted : (k v : ℕ) → Exactly ((amend_of s k v).refusal ≡ not_refused) (k < payload_length_of s)
+  pub amend_accepted : (k v : ℕ) → Exactly (refusal_in (amend_of s k v).answer ≡ not_refused) (k < payload_length_of s)
   amend_accepted k v = by_none (amend_conditions s k) tt ((amending s k v).exactly 0)
 
-  pub list_15 : (es : List ℕ) → Exactly ((amend_list_of s es).refusal ≡ refused 15) (Outside (payload_length_of s) es)
+  pub list_15 : (es : List ℕ) → Exactly (refusal_in (amend_list_of s es).answer ≡ refused 15) (Outside (payload_length_of s) es)
   list_15 es = (amending_list s es).exactly 15
 
-  pub list_accepted : (es : List ℕ) → Exactly ((amend_list_of s es).refusal ≡ not_refused) (Outside (payload_length_of s) es → ⊥)
+  pub list_accepted : (es : List ℕ) → Exactly (refusal_in (amend_list_of s es).answer ≡ not_refused) (Outside (payload_length_of s) es → ⊥)
   list_accepted es = by_none (list_conditions s es) tt ((amending_list s es).exactly 0)
 
-  pub taken_7 : (room : ℕ) → Exactly ((taken_of s room).refusal ≡ refused 7) (s.length ≤ room → ⊥)
+  pub taken_7 : (room : ℕ) → Exactly (refusal_in (taken_of s room) ≡ refused 7) (s.length ≤ room → ⊥)
   taken_7 room = (taking s room).exactly 7
 
-  pub taken_accepted : (room : ℕ) → Exactly ((taken_of s room).refusal ≡ not_refused) (s.length ≤ room)
+  pub taken_accepted : (room : ℕ) → Exactly (refusal_in (taken_of s room) ≡ not_refused) (s.length ≤ room)
   taken_accepted room = by_none (taken_conditions s room) tt ((taking s room).exactly 0)

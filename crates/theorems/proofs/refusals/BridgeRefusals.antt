@@ -1,24 +1,24 @@
 -- The numbers that the functions for C add are given exactly where they are to (docs/RULES.md, Refusals, From C), and the low byte
 -- of every answer to C is the number that the proved call gives, with its place above it.
 -- Assumes nothing.
-use mathlib.Core.Path.{◌≡◌, refl, ap}
-use mathlib.Core.Bool.{Bool}
+use Rattle.std.specs.Prelude.{Ok, Err}
+use Rattle.frame_opening.specs.SessionKeys.{derived_keys}
+use Rattle.frame.specs.JoinFields.{request_fields_of, accept_fields_of}
+use Rattle.frame.specs.Refusals.{refusal_in}
+use Rattle.frame.specs.Refusals.{refusal_in}
+use mathlib.Core.Path.{◌≡◌, refl}
 use mathlib.Core.List.{List}
 use Prim.Native.Nat.{ℕ, ◌%◌, ◌^◌, ◌<◌}
 use native.Mathlib.Omega.{arith}
 use lib.Dec.{ltb}
 use lib.ListN.{length}
-use borrow.Author.Tests.{ne_eqb}
-use Rattle.base.specs.Bytes.{pick}
 use Rattle.frame.specs.JoinFields.{join_request_fields_of, join_accept_fields_of}
 use Rattle.frame.specs.PackedReading.{numbered}
 use Rattle.frame.specs.Reading.{read_of}
-use Rattle.frame.specs.Refusals.{refusal, refused, not_refused}
-use Rattle.frame.specs.declared.refusals.Refusal.{Refusal}
+use Rattle.frame.specs.Refusals.{refused}
 use Rattle.frame_build.specs.DataFrames.{data_frame_of, built_of}
 use Rattle.frame_build.specs.declared.creator.data_frame.DataParts.{DataParts}
 use Rattle.frame_opening.specs.SessionKeys.{session_keys_of}
-use Rattle.frame_c.specs.CAnswers.{or_short_of}
 use Rattle.frame_c.specs.CGiven.{data_refused}
 use Rattle.theorems.specs.Exactly.{Exactly, Due}
 use Rattle.theorems.specs.ByReading.{Needs, join_request, join_accept, AfterReading}
@@ -26,7 +26,6 @@ use Rattle.theorems.specs.BuildingConditions.{Answers}
 use Rattle.theorems.specs.BridgeConditions.{kind_conditions, room_conditions, stored_refusal, number_in_c, place_in_c}
 use Rattle.theorems.proofs.refusals.BuildingRefusals.{data_gives, answers}
 use Rattle.theorems.proofs.refusals.FirstDue.{if_when, if_below, Gives, plain, or_else, tested, through, nothing_left}
-use Rattle.theorems.proofs.refusals.OpeningRefusals.{session_refusal, request_refusal, accept_refusal}
 use Rattle.theorems.proofs.refusals.ReadFirst.{on, on_through, refusal_after}
 
 -- ---- building a data frame
@@ -50,39 +49,34 @@ module _ (kind : ℕ) (d : DataParts) (commands body : List ℕ) (room : ℕ) wh
 -- ---- answers of several bytes
 
 module _ (count room : ℕ) where
-  -- a refusal stays
-  kept : (r : Refusal) → (r.number ≡ 0 → ⊥) → stored_refusal r count room ≡ r
-  unfolding or_short_of
-  kept r n = ap (λ (b : Bool). refusal (pick b (pick (ltb room count) 7 0) r.number) r.place) (ne_eqb r.number 0 n)
-
-  -- where there is none, the room decides
-  room_gives : Gives refused (room_conditions count room) (stored_refusal not_refused count room)
-  unfolding or_short_of
-  room_gives =
-      rw (through refused (ltb room count) 7 0)
+  -- where nothing is refused, the room decides
+  room_gives : {A : Type 0} (x : A) → Gives refused (room_conditions count room) (stored_refusal (Ok x) count room)
+  room_gives x =
+      rw (through refusal_in (ltb room count) (Err (refused 7)) (Ok x))
       (tested refused (λ r. r) (λ n. refl) tt (ltb room count) (if_when (ltb room count) (if_below room count)) nothing_left)
 
-  -- what is stored beside the refusal of a call that reads a frame and does no more
-  stored_after : (k : Needs) (f : List ℕ)
-      → AfterReading (λ r. r) refused k f (room_conditions count room) (stored_refusal (on k not_refused (λ r. r) (read_of f)) count room)
-  stored_after k f =
-      rw (on_through (λ (r : Refusal). stored_refusal r count room) k f not_refused (λ r. r) (λ r. r) kept)
-      (refusal_after k f (λ i. room_gives))
+  -- what is stored by a call that reads a frame and does no more
+  stored_after : {A : Type 0} (k : Needs) (f : List ℕ) (x : A)
+      → AfterReading (λ r. r) refused k f (room_conditions count room) (stored_refusal (on k (Ok x) Err (read_of f)) count room)
+  stored_after k f x =
+      rw (on_through (λ s. stored_refusal s count room) k f (Ok x) Err (λ r. r) (λ r n. refl))
+      (refusal_after k f (λ i. room_gives x))
 
 -- session keys, 32 bytes: reading, 7
 pub keys_stored : (key dev_nonce_of f : List ℕ) (room : ℕ)
-    → AfterReading (λ r. r) refused join_accept f (room_conditions 32 room) (stored_refusal (session_keys_of key dev_nonce_of f).refusal 32 room)
-keys_stored key dev_nonce_of f room = rw (session_refusal key dev_nonce_of f) (stored_after 32 room join_accept f)
+    → AfterReading (λ r. r) refused join_accept f (room_conditions 32 room) (stored_refusal (session_keys_of key dev_nonce_of f) 32 room)
+unfolding session_keys_of
+keys_stored key dev_nonce_of f room = stored_after 32 room join_accept f (derived_keys key dev_nonce_of f)
 
 -- the fields of a join-request, 22 bytes: reading, 7
 pub request_stored : (f : List ℕ) (room : ℕ)
-    → AfterReading (λ r. r) refused join_request f (room_conditions 22 room) (stored_refusal (join_request_fields_of f).refusal 22 room)
-request_stored f room = rw (request_refusal f) (stored_after 22 room join_request f)
+    → AfterReading (λ r. r) refused join_request f (room_conditions 22 room) (stored_refusal (join_request_fields_of f) 22 room)
+request_stored f room = stored_after 22 room join_request f (request_fields_of f)
 
 -- the fields of a join-accept, 42 bytes: reading, 7
 pub accept_stored : (f : List ℕ) (room : ℕ)
-    → AfterReading (λ r. r) refused join_accept f (room_conditions 42 room) (stored_refusal (join_accept_fields_of f).refusal 42 room)
-accept_stored f room = rw (accept_refusal f) (stored_after 42 room join_accept f)
+    → AfterReading (λ r. r) refused join_accept f (room_conditions 42 room) (stored_refusal (join_accept_fields_of f) 42 room)
+accept_stored f room = stored_after 42 room join_accept f (accept_fields_of f)
 
 -- ---- the number in an answer, and the place above it
 

@@ -1,6 +1,9 @@
 -- Building gives each number exactly where it is due by the order of its conditions (docs/RULES.md, Refusals), 0 where none
 -- holds, and no other number: said of the definitions of the refusals, and of what each call answers, a refusal or a length.
 -- Assumes nothing.
+use Rattle.frame.specs.declared.refusals.Refusal.{Refusal}
+use Rattle.frame.specs.Refusals.{refusal_in}
+use Rattle.std.specs.Prelude.{Err, None, Ok, Option, Result, Some}
 use mathlib.Core.Path.{◌≡◌, refl, sym, ap}
 use mathlib.Core.Bool.{Bool, true, false, not}
 use mathlib.Core.List.{List}
@@ -11,14 +14,10 @@ use lib.ListN.{length}
 use borrow.Author.Tests.{eqb-true, eqb-false, eq-eqb, ne_eqb, ltb-true, lt-ltb}
 use Rattle.base.specs.Bytes.{pick}
 use Rattle.frame.specs.Refusals.{refused}
-use Rattle.frame.specs.declared.parser.FPort.{FPort}
-use Rattle.frame.specs.declared.parser.FPort.TheVariants.{Absent, Port}
 use Rattle.frame_build.specs.DataBuilding.{both, either, is_zero, is_absent, data_length, data_refusal_of}
-use Rattle.frame_build.specs.DataFrames.{data_frame_of, built_of, built_refusal}
+use Rattle.frame_build.specs.DataFrames.{data_frame_of, built_of}
 use Rattle.frame_build.specs.JoinBuilding.{too_high_of, join_accept_refusal_of, join_request_refusal}
 use Rattle.frame_build.specs.JoinFrames.{join_request_of, join_accept_of}
-use Rattle.frame_build.specs.declared.creator.Built.{Built}
-use Rattle.frame_build.specs.declared.creator.Built.TheVariants.{Frame, Refused}
 use Rattle.frame_build.specs.declared.creator.data_frame.DataParts.{DataParts}
 use Rattle.frame_build.specs.declared.creator.join.JoinRequestParts.{JoinRequestParts}
 use Rattle.frame_build.specs.declared.creator.join.JoinAcceptParts.{JoinAcceptParts}
@@ -30,21 +29,21 @@ use Rattle.theorems.proofs.refusals.FirstDue.{apart, if_when, if_unless, if_not,
 -- ---- what the tests tell
 
 -- of the port
-if_zero : (port : FPort) → Exactly (is_zero port ≡ true) (port ≡ Port 0)
-if_zero Absent = record { there = λ e. apart (sym e); back = λ e. cc }
-if_zero (Port p) = record { there = λ e. ap Port (eqb-true p 0 e); back = λ e. eq-eqb p 0 (cc) }
+if_zero : (port : (Option ℕ)) → Exactly (is_zero port ≡ true) (port ≡ Some 0)
+if_zero None = record { there = λ e. apart (sym e); back = λ e. cc }
+if_zero (Some p) = record { there = λ e. ap Some (eqb-true p 0 e); back = λ e. eq-eqb p 0 (cc) }
 
-if_absent : (port : FPort) → Exactly (is_absent port ≡ true) (port ≡ Absent)
-if_absent Absent = record { there = λ e. refl; back = λ e. refl }
-if_absent (Port p) = record { there = λ e. apart (sym e); back = λ e. cc }
+if_absent : (port : (Option ℕ)) → Exactly (is_absent port ≡ true) (port ≡ None)
+if_absent None = record { there = λ e. refl; back = λ e. refl }
+if_absent (Some p) = record { there = λ e. apart (sym e); back = λ e. cc }
 
-port_other : (p : ℕ) → NotPort0 (Port p) → p ≡ 0 → ⊥
+port_other : (p : ℕ) → NotPort0 (Some p) → p ≡ 0 → ⊥
 port_other p (absent e) z = apart (cc)
 port_other p (other q e n) z = n (cc)
 
-if_not_zero : (port : FPort) → Exactly (is_zero port ≡ false) (NotPort0 port)
-if_not_zero Absent = record { there = λ e. absent refl; back = λ n. refl }
-if_not_zero (Port p) = record { there = λ e. other p refl (eqb-false p 0 e); back = λ n. ne_eqb p 0 (port_other p n) }
+if_not_zero : (port : (Option ℕ)) → Exactly (is_zero port ≡ false) (NotPort0 port)
+if_not_zero None = record { there = λ e. absent refl; back = λ n. refl }
+if_not_zero (Some p) = record { there = λ e. other p refl (eqb-false p 0 e); back = λ n. ne_eqb p 0 (port_other p n) }
 
 -- two tests, both of which are to hold
 if_both : (a b : Bool) {P Q : Type 0} → Exactly (a ≡ true) P → Exactly (b ≡ true) Q → Exactly (both a b ≡ true) (P × Q)
@@ -129,14 +128,14 @@ accept_gives j channels room =
 -- what is due by the number is what is due by the answer
 pub answers : {cs : List Condition} {m : ℕ} (long : ℕ) → Gives plain cs m → Answers cs long (built_of m long)
 answers long g =
-    let says : ℕ → Built = λ (n : ℕ). built_of n long in
-    let back = says_told Refused (Frame long) built_refusal (λ r. refl) refl in
-    let given = in_answer says built_refusal back g in
+    let says : ℕ → (Result ℕ Refusal) = λ (n : ℕ). built_of n long in
+    let back = says_told Err (Ok long) refusal_in (λ r. refl) refl in
+    let given = in_answer says refusal_in back g in
     record {
       refuses =
           λ n h. rw (ne_eqb n 0 (λ e. omega arith)) at (given.exactly n);
       builds = given.exactly 0;
-      no_other = λ q o e. no_other says built_refusal back given q o (ap built_refusal e);
+      no_other = λ q o e. no_other says refusal_in back given q o (ap refusal_in e);
     }
 
 module _ (d : DataParts) (commands body : List ℕ) (room : ℕ) where
@@ -167,35 +166,35 @@ module _ (j : JoinAcceptParts) (channels : List ℕ) (room : ℕ) where
 -- ---- the numbers of them and what is built, written out
 
 module _ (nwk app : List ℕ) (d : DataParts) (commands body : List ℕ) (room : ℕ) where
-  abbrev data_answer : Built
+  abbrev data_answer : (Result ℕ Refusal)
   data_answer = built_of (data_refusal_of d commands body room) (length (data_frame_of nwk app d commands body))
 
-  due_at : (n : ℕ) → 0 < n → Exactly (data_answer ≡ Refused (refused n)) (Due (data_conditions d commands body room) n)
+  due_at : (n : ℕ) → 0 < n → Exactly (data_answer ≡ Err (refused n)) (Due (data_conditions d commands body room) n)
   due_at = (data_answers d commands body room nwk app).refuses
 
-  pub data_7 : Exactly (data_answer ≡ Refused (refused 7)) (room < 255)
+  pub data_7 : Exactly (data_answer ≡ Err (refused 7)) (room < 255)
   data_7 = due_at 7 (omega arith)
 
-  pub data_13 : Exactly (data_answer ≡ Refused (refused 13)) ((room < 255 → ⊥) × (d.fctrl % 16 ≡ 0 → ⊥))
+  pub data_13 : Exactly (data_answer ≡ Err (refused 13)) ((room < 255 → ⊥) × (d.fctrl % 16 ≡ 0 → ⊥))
   data_13 = due_at 13 (omega arith)
 
-  pub data_9 : Exactly (data_answer ≡ Refused (refused 9))
+  pub data_9 : Exactly (data_answer ≡ Err (refused 9))
       ((room < 255 → ⊥) × ((d.fctrl % 16 ≡ 0) × TooManyCommands d.port commands))
   data_9 = due_at 9 (omega arith)
 
-  pub data_10 : Exactly (data_answer ≡ Refused (refused 10))
+  pub data_10 : Exactly (data_answer ≡ Err (refused 10))
       ((room < 255 → ⊥)
       × ((d.fctrl % 16 ≡ 0) × ((TooManyCommands d.port commands → ⊥) × PayloadOnPort0 d.port body)))
   data_10 = due_at 10 (omega arith)
 
-  pub data_11 : Exactly (data_answer ≡ Refused (refused 11))
+  pub data_11 : Exactly (data_answer ≡ Err (refused 11))
       ((room < 255 → ⊥)
       × ((d.fctrl % 16 ≡ 0)
       × ((TooManyCommands d.port commands → ⊥)
       × ((PayloadOnPort0 d.port body → ⊥) × PayloadWithoutPort d.port body))))
   data_11 = due_at 11 (omega arith)
 
-  pub data_12 : Exactly (data_answer ≡ Refused (refused 12))
+  pub data_12 : Exactly (data_answer ≡ Err (refused 12))
       ((room < 255 → ⊥)
       × ((d.fctrl % 16 ≡ 0)
       × ((TooManyCommands d.port commands → ⊥)
@@ -203,7 +202,7 @@ module _ (nwk app : List ℕ) (d : DataParts) (commands body : List ℕ) (room :
       × ((PayloadWithoutPort d.port body → ⊥) × (255 < data_length d commands body))))))
   data_12 = due_at 12 (omega arith)
 
-  pub data_built : Exactly (data_answer ≡ Frame (length (data_frame_of nwk app d commands body)))
+  pub data_built : Exactly (data_answer ≡ Ok (length (data_frame_of nwk app d commands body)))
       ((room < 255 → ⊥)
       × ((d.fctrl % 16 ≡ 0)
       × ((TooManyCommands d.port commands → ⊥)
@@ -212,26 +211,26 @@ module _ (nwk app : List ℕ) (d : DataParts) (commands body : List ℕ) (room :
   data_built = by_none (data_conditions d commands body room) tt (data_answers d commands body room nwk app).builds
 
 module _ (key : List ℕ) (j : JoinRequestParts) (room : ℕ) where
-  abbrev request_answer : Built
+  abbrev request_answer : (Result ℕ Refusal)
   request_answer = built_of (join_request_refusal room) (length (join_request_of key j))
 
-  pub request_7 : Exactly (request_answer ≡ Refused (refused 7)) (room < 23)
+  pub request_7 : Exactly (request_answer ≡ Err (refused 7)) (room < 23)
   request_7 = (request_answers key j room).refuses 7 (omega arith)
 
-  pub request_built : Exactly (request_answer ≡ Frame (length (join_request_of key j))) (room < 23 → ⊥)
+  pub request_built : Exactly (request_answer ≡ Ok (length (join_request_of key j))) (room < 23 → ⊥)
   request_built = by_none (request_conditions room) tt (request_answers key j room).builds
 
 module _ (key : List ℕ) (j : JoinAcceptParts) (channels : List ℕ) (room : ℕ) where
-  abbrev accept_answer : Built
+  abbrev accept_answer : (Result ℕ Refusal)
   accept_answer = built_of (join_accept_refusal_of j channels room) (length (join_accept_of key j channels))
 
-  pub accept_8 : Exactly (accept_answer ≡ Refused (refused 8)) (WrongList j.with_c_f_list channels)
+  pub accept_8 : Exactly (accept_answer ≡ Err (refused 8)) (WrongList j.with_c_f_list channels)
   accept_8 = (accept_answers j channels room key).refuses 8 (omega arith)
 
-  pub accept_7 : Exactly (accept_answer ≡ Refused (refused 7))
+  pub accept_7 : Exactly (accept_answer ≡ Err (refused 7))
       ((WrongList j.with_c_f_list channels → ⊥) × NoRoom j.with_c_f_list room)
   accept_7 = (accept_answers j channels room key).refuses 7 (omega arith)
 
-  pub accept_built : Exactly (accept_answer ≡ Frame (length (join_accept_of key j channels)))
+  pub accept_built : Exactly (accept_answer ≡ Ok (length (join_accept_of key j channels)))
       ((WrongList j.with_c_f_list channels → ⊥) × (NoRoom j.with_c_f_list room → ⊥))
   accept_built = by_none (accept_conditions j channels room) tt (accept_answers j channels room key).builds

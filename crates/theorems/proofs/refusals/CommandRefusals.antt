@@ -2,6 +2,9 @@
 -- place; writing goes by 16, 18 and 7 at place 0, and writes nothing where it refuses; the lists of a frame hand on what
 -- reading gives.
 -- Assumes nothing.
+use mathlib.Core.Path.{ap₂}
+use Rattle.frame.specs.Refusals.{refusal_in}
+use Rattle.std.specs.Prelude.{Err, None, Ok, Result, Some}
 use mathlib.Core.Path.{◌≡◌, refl, sym, ap, ◌∙◌}
 use mathlib.Core.Bool.{Bool, true, false, not}
 use mathlib.Core.List.{List, [], ◌∷◌, ◌++◌}
@@ -23,23 +26,18 @@ use Rattle.frame.specs.ReadingNumbers.{on_data}
 use Rattle.frame.specs.PackedReading.{numbered}
 use Rattle.frame.specs.Refusals.{refusal, refused}
 use Rattle.frame.specs.declared.parser.DataFrame.{DataFrame}
-use Rattle.frame.specs.declared.parser.Reading.{Reading}
-use Rattle.frame.specs.declared.parser.Reading.TheVariants.{JoinRequest, JoinAccept, Data, Refused as NotRead}
+use Rattle.frame.specs.Reading.{Reading}
+use Rattle.frame.specs.declared.parser.Frame.TheVariants.{JoinRequest, JoinAccept, Data}
 use Rattle.frame.specs.declared.refusals.Refusal.{Refusal}
 use Rattle.frame.proofs.ReadingLaws.{Says, answers}
 use Rattle.mac_commands.specs.Commands.{raw_of, fields_as, row_at, values_of, raw_step_at, step_of, step_at, row_bytes, put_as, put_in, written_as, written_in, command_written, command_in, fields_written, fields_in}
 use Rattle.mac_commands.specs.InFrame.{lists_of, in_frame_of}
 use Rattle.mac_commands.specs.Layout.{Piece, fits, count_in_row, width_at, number_of, downs, ups, row, row_of, known, size_of}
 use Rattle.mac_commands.specs.declared.in_frame.CommandLists.{CommandLists}
-use Rattle.mac_commands.specs.declared.in_frame.InFrame.TheVariants.{Lists, Refused as NoLists}
 use Rattle.mac_commands.specs.declared.maccommands.Command.{Command}
 use Rattle.mac_commands.specs.declared.maccommands.Command.TheVariants.{DevStatusAns}
-use Rattle.mac_commands.specs.declared.maccommands.RawStep.{RawStep}
-use Rattle.mac_commands.specs.declared.maccommands.RawStep.TheVariants.{Found as RawFound, End as RawEnd, Refused as RawRefused}
-use Rattle.mac_commands.specs.declared.maccommands.Step.{Step}
-use Rattle.mac_commands.specs.declared.maccommands.Step.TheVariants.{Found, End, Refused}
-use Rattle.mac_commands.specs.declared.maccommandcreator.Written.{Written}
-use Rattle.mac_commands.specs.declared.maccommandcreator.Written.TheVariants.{Upto, Refused as Unwritten}
+use Rattle.mac_commands.specs.Commands.{RawStep}
+use Rattle.mac_commands.specs.Commands.{Step}
 use Rattle.mac_commands.proofs.LayoutLaws.{named_below, each_fits, fits_each}
 use Rattle.mac_commands.proofs.MarginLaws as margins
 use Rattle.mac_commands.proofs.StepLaws as steps
@@ -47,7 +45,7 @@ use Rattle.mac_commands.proofs.TableLaws.{row_distinct, row_within, row_named}
 use Rattle.frame_c.specs.CCommands.{step_answer}
 use Rattle.theorems.specs.Exactly.{Exactly, Condition}
 use Rattle.theorems.specs.ByReading.{data_frame, AfterReading}
-use Rattle.theorems.specs.CommandConditions.{Unknown, low, high, Known, size_at, UnknownAt, CutShortAt, WholeAt, command_at, Steps, Unfit, unfit, NoRoom, row_conditions, field_conditions, Writes, written_refusal, written_of, OutsideMargin, under, over, lists_answer, lists_refusal}
+use Rattle.theorems.specs.CommandConditions.{Unknown, low, high, Known, size_at, UnknownAt, CutShortAt, WholeAt, command_at, Steps, Unfit, unfit, NoRoom, row_conditions, field_conditions, Writes, written_of, OutsideMargin, under, over, lists_answer}
 use Rattle.theorems.proofs.refusals.FirstDue.{apart, if_when, if_not, with_none, Gives, no_more, passed, says_told, no_other}
 use Rattle.theorems.proofs.refusals.ReadFirst.{on, after_reading}
 
@@ -80,19 +78,19 @@ if_unknown id =
 
 -- the number and the place of a refusal, and the place past a command
 abbrev number_in : Step → ℕ
-number_in (Found c n) = 0
-number_in End = 0
-number_in (Refused r) = r.number
+number_in (Ok (Some (c, n))) = 0
+number_in (Ok None) = 0
+number_in (Err r) = r.number
 
-abbrev refusal_in : Step → Refusal
-refusal_in (Found c n) = refused 0
-refusal_in End = refused 0
-refusal_in (Refused r) = r
+abbrev found_in : Command → Step → Command
+found_in d (Ok (Some (c, n))) = c
+found_in d (Ok None) = d
+found_in d (Err r) = d
 
 abbrev place_in : Step → ℕ
-place_in (Found c n) = n
-place_in End = 0
-place_in (Refused r) = r.place
+place_in (Ok (Some (c, n))) = n
+place_in (Ok None) = 0
+place_in (Err r) = r.place
 
 module _ (up : Bool) (s : List ℕ) (i : ℕ) where
   abbrev answer : Step
@@ -101,7 +99,7 @@ module _ (up : Bool) (s : List ℕ) (i : ℕ) where
   -- the four cases
   ended : length s ≤ i → Steps up s i answer
   ended h =
-      let e : answer ≡ End = steps.ended up s i h in
+      let e : answer ≡ (Ok None) = steps.ended up s i h in
       let out : i < length s → ⊥ = λ l. omega arith in
       record {
         unknown = λ p. record { there = λ q. apart (cc); back = λ k. absurd (out k.1.inside) };
@@ -113,13 +111,13 @@ module _ (up : Bool) (s : List ℕ) (i : ℕ) where
 
   refused_16 : UnknownAt s i → Steps up s i answer
   refused_16 h =
-      let e : answer ≡ Refused (refusal 16 i) = steps.unknown up s i h.inside (not_known (at s i) h.unknown) in
+      let e : answer ≡ Err (refusal 16 i) = steps.unknown up s i h.inside (not_known (at s i) h.unknown) in
       record {
         unknown =
             λ p.
             record {
               there = λ q. (ap place_in (sym q ∙ e), h);
-              back = λ k. e ∙ ap (λ (n : ℕ). Refused (refusal 16 n)) (sym k.0);
+              back = λ k. e ∙ ap (λ (n : ℕ). Err (refusal 16 n)) (sym k.0);
             };
         cut_short =
             λ p.
@@ -136,7 +134,7 @@ module _ (up : Bool) (s : List ℕ) (i : ℕ) where
 
   refused_17 : CutShortAt up s i → Steps up s i answer
   refused_17 h =
-      let e : answer ≡ Refused (refusal 17 i) =
+      let e : answer ≡ Err (refusal 17 i) =
       steps.cut up s i h.inside (is_known (at s i) h.known) h.short in
       record {
         unknown =
@@ -149,7 +147,7 @@ module _ (up : Bool) (s : List ℕ) (i : ℕ) where
             λ p.
             record {
               there = λ q. (ap place_in (sym q ∙ e), h);
-              back = λ k. e ∙ ap (λ (n : ℕ). Refused (refusal 17 n)) (sym k.0);
+              back = λ k. e ∙ ap (λ (n : ℕ). Err (refusal 17 n)) (sym k.0);
             };
         no_other = λ r n m q. m (ap number_in (sym q ∙ e));
         ends = record { there = λ q. apart (cc); back = λ k. let l : i < length s = h.inside in absurd (omega arith) };
@@ -167,7 +165,7 @@ module _ (up : Bool) (s : List ℕ) (i : ℕ) where
 
   found : WholeAt up s i → Steps up s i answer
   found h =
-      let e : answer ≡ Found (command_at up s i) (i + 1 + size_at up s i) =
+      let e : answer ≡ Ok (Some ((command_at up s i), (i + 1 + size_at up s i))) =
       steps.whole up s i h.inside (is_known (at s i) h.known) h.room in
       record {
         unknown =
@@ -187,8 +185,8 @@ module _ (up : Bool) (s : List ℕ) (i : ℕ) where
         finds =
             λ c n.
             record {
-              there = λ q. (h, (cc, ap place_in (sym q ∙ e)));
-              back = λ k. let x = k.1.0 in let y = k.1.1 in cc;
+              there = λ q. (h, (ap (found_in c) (sym q ∙ e), ap place_in (sym q ∙ e)));
+              back = λ k. e ∙ ap₂ (λ (x : Command) (m : ℕ). Ok (Some (x, m))) (sym k.1.0) (sym k.1.1);
             };
       }
 
@@ -205,13 +203,13 @@ module _ (up : Bool) (s : List ℕ) (i : ℕ) where
       (λ k. refused_16 (record { inside = l; unknown = (if_unknown (at s i)).there k })))
 
 -- a raw step is refused exactly where the step is, by the same number and at the same place
-refused_raw : (x : RawStep) (e : Refusal) → step_of x ≡ Refused e → x ≡ RawRefused e
-refused_raw (RawFound r v n) e h = apart (cc)
-refused_raw RawEnd e h = apart (cc)
-refused_raw (RawRefused f) e h = ap RawRefused (ap refusal_in h)
+refused_raw : (x : RawStep) (e : Refusal) → step_of x ≡ Err e → x ≡ Err e
+refused_raw (Ok (Some raw)) e h = apart (cc)
+refused_raw (Ok None) e h = apart (cc)
+refused_raw (Err f) e h = ap Err (ap refusal_in h)
 
 pub raw_refuses : (up : Bool) (s : List ℕ) (i : ℕ) (e : Refusal)
-    → Exactly (raw_step_at up s i ≡ RawRefused e) (step_at up s i ≡ Refused e)
+    → Exactly (raw_step_at up s i ≡ Err e) (step_at up s i ≡ Err e)
 unfolding step_at
 raw_refuses up s i e = record { there = ap step_of; back = refused_raw (raw_step_at up s i) e }
 
@@ -312,8 +310,8 @@ pub if_over : (m n : ℕ) → Exactly (leb m n ≡ false) (n < m)
 if_over m n = record { there = leb-false m n; back = lt-leb m n }
 
 -- a writing tells its refusal
-pub told : (next n : ℕ) → written_refusal (written_of next n) ≡ refused n
-told next = says_told Unwritten (Upto next) written_refusal (λ r. refl) refl
+pub told : (next n : ℕ) → refusal_in (written_of next n) ≡ refused n
+told next = says_told Err (Ok next) refusal_in (λ r. refl) refl
 
 row_gives : (r : ℕ) (xs : List ℕ) (n i : ℕ)
     → Gives (written_of (i + (1 + size_of r))) (row_conditions r xs n i) (written_as r xs n i)
@@ -322,28 +320,28 @@ row_gives r xs n i =
     let next = i + (1 + size_of r) in
     let all_fit = fits (row r) xs in
     let room = leb next n in
-    passed (written_of next) written_refusal (told next) tt all_fit (if_when (not all_fit) (if_not all_fit (if_unfit r xs)))
-    (passed (written_of next) written_refusal (told next) tt room (if_when (not room) (if_not room (if_over next n)))
-    (no_more (written_of next) written_refusal (told next)))
+    passed (written_of next) refusal_in (told next) tt all_fit (if_when (not all_fit) (if_not all_fit (if_unfit r xs)))
+    (passed (written_of next) refusal_in (told next) tt room (if_when (not room) (if_not room (if_over next n)))
+    (no_more (written_of next) refusal_in (told next)))
 
 fields_give : (up : Bool) (id : ℕ) (xs : List ℕ) (n i : ℕ)
     → Gives (written_of (i + (1 + size_of (row_of up id)))) (field_conditions up id xs n i) (fields_written up id xs n i)
 unfolding fields_written
 fields_give up id xs n i =
     let next = i + (1 + size_of (row_of up id)) in
-    passed (written_of next) written_refusal (told next) tt (known id) (if_when (not (known id)) (if_not (known id) (if_unknown id)))
+    passed (written_of next) refusal_in (told next) tt (known id) (if_when (not (known id)) (if_not (known id) (if_unknown id)))
     (row_gives (row_of up id) xs n i)
 
 -- a writing that says n and answers a place says 0, and it is that place
-written_says : (next n m : ℕ) → Upto m ≡ written_of next n → m ≡ next
+written_says : (next n m : ℕ) → Ok m ≡ written_of next n → m ≡ next
 written_says next n m e =
     by_bool (eqb n 0)
-    (λ t. let f : Upto m ≡ Upto next = e ∙ ap (λ (b : Bool). pick b (Upto next) (Unwritten (refused n))) t in cc)
+    (λ t. let f : Ok m ≡ Ok next = e ∙ ap (λ (b : Bool). pick b (Ok next) (Err (refused n))) t in cc)
     (λ t.
-    let f : Upto m ≡ Unwritten (refused n) = e ∙ ap (λ (b : Bool). pick b (Upto next) (Unwritten (refused n))) t in
+    let f : Ok m ≡ Err (refused n) = e ∙ ap (λ (b : Bool). pick b (Ok next) (Err (refused n))) t in
     apart (cc))
 
-pub writes : {cs : List Condition} {w : Written} (next : ℕ) → Gives (written_of next) cs w → Writes cs next w
+pub writes : {cs : List Condition} {w : (Result ℕ Refusal)} (next : ℕ) → Gives (written_of next) cs w → Writes cs next w
 writes {cs} {w} next g =
     record {
       refuses = λ n h. rw (ne_eqb n 0 (λ e. omega arith)) at (g.exactly n);
@@ -353,10 +351,10 @@ writes {cs} {w} next g =
             there =
                 λ q.
                 let is : m ≡ next = written_says next g.some.0 m (sym q ∙ g.some.1) in
-                (is, (g.exactly 0).there (q ∙ ap Upto is));
-            back = λ h. (g.exactly 0).back h.1 ∙ ap Upto (sym h.0);
+                (is, (g.exactly 0).there (q ∙ ap Ok is));
+            back = λ h. (g.exactly 0).back h.1 ∙ ap Ok (sym h.0);
           };
-      no_other = λ q o e. no_other (written_of next) written_refusal (told next) g q o (ap written_refusal e);
+      no_other = λ q o e. no_other (written_of next) refusal_in (told next) g q o (ap refusal_in e);
     }
 
 -- a command: 18, 7
@@ -372,31 +370,31 @@ fields_write up id xs n i = writes (i + (1 + size_of (row_of up id))) (fields_gi
 -- ---- the numbers of them and what is written, written out
 
 module _ (c : Command) (n i : ℕ) where
-  pub command_18 : Exactly (command_written c n i ≡ Unwritten (refused 18)) (Unfit (row_at c) (values_of c))
+  pub command_18 : Exactly (command_written c n i ≡ Err (refused 18)) (Unfit (row_at c) (values_of c))
   command_18 = (command_writes c n i).refuses 18 (omega arith)
 
-  pub command_7 : Exactly (command_written c n i ≡ Unwritten (refused 7))
+  pub command_7 : Exactly (command_written c n i ≡ Err (refused 7))
       ((Unfit (row_at c) (values_of c) → ⊥) × NoRoom (row_at c) n i)
   command_7 = (command_writes c n i).refuses 7 (omega arith)
 
   pub command_written_lem : (m : ℕ)
-      → Exactly (command_written c n i ≡ Upto m)
+      → Exactly (command_written c n i ≡ Ok m)
       ((m ≡ i + (1 + size_of (row_at c))) × ((Unfit (row_at c) (values_of c) → ⊥) × (NoRoom (row_at c) n i → ⊥)))
   command_written_lem m = with_none (row_conditions (row_at c) (values_of c) n i) tt ((command_writes c n i).writes m)
 
 module _ (up : Bool) (id : ℕ) (xs : List ℕ) (n i : ℕ) where
-  pub fields_16 : Exactly (fields_written up id xs n i ≡ Unwritten (refused 16)) (Unknown id)
+  pub fields_16 : Exactly (fields_written up id xs n i ≡ Err (refused 16)) (Unknown id)
   fields_16 = (fields_write up id xs n i).refuses 16 (omega arith)
 
-  pub fields_18 : Exactly (fields_written up id xs n i ≡ Unwritten (refused 18)) ((Unknown id → ⊥) × Unfit (row_of up id) xs)
+  pub fields_18 : Exactly (fields_written up id xs n i ≡ Err (refused 18)) ((Unknown id → ⊥) × Unfit (row_of up id) xs)
   fields_18 = (fields_write up id xs n i).refuses 18 (omega arith)
 
-  pub fields_7 : Exactly (fields_written up id xs n i ≡ Unwritten (refused 7))
+  pub fields_7 : Exactly (fields_written up id xs n i ≡ Err (refused 7))
       ((Unknown id → ⊥) × ((Unfit (row_of up id) xs → ⊥) × NoRoom (row_of up id) n i))
   fields_7 = (fields_write up id xs n i).refuses 7 (omega arith)
 
   pub fields_written_lem : (m : ℕ)
-      → Exactly (fields_written up id xs n i ≡ Upto m)
+      → Exactly (fields_written up id xs n i ≡ Ok m)
       ((m ≡ i + (1 + size_of (row_of up id)))
       × ((Unknown id → ⊥) × ((Unfit (row_of up id) xs → ⊥) × (NoRoom (row_of up id) n i → ⊥))))
   fields_written_lem m = with_none (field_conditions up id xs n i) tt ((fields_write up id xs n i).writes m)
@@ -431,7 +429,7 @@ unfolding row downs ups count_in_row width_at
 unfit_status battery m o = unfit 1 (omega arith) (outside_margin m o)
 
 pub margin_18 : (battery : ℕ) (margin : ℤ) (n i : ℕ) → battery < 256
-    → Exactly (command_written (DevStatusAns battery margin) n i ≡ Unwritten (refused 18)) (OutsideMargin margin)
+    → Exactly (command_written (DevStatusAns battery margin) n i ≡ Err (refused 18)) (OutsideMargin margin)
 unfolding fields_as
 margin_18 battery margin n i h =
     let by = command_18 (DevStatusAns battery margin) n i in
@@ -442,28 +440,28 @@ margin_18 battery margin n i h =
 
 -- ---- nothing is written by a refusal
 
-row_kept : (r : ℕ) (xs l : List ℕ) (i : ℕ) (q : Refusal) → written_as r xs (length l) i ≡ Unwritten q → written_in r xs l i ≡ l
+row_kept : (r : ℕ) (xs l : List ℕ) (i : ℕ) (q : Refusal) → written_as r xs (length l) i ≡ Err q → written_in r xs l i ≡ l
 unfolding written_as written_in put_as put_in
 row_kept r xs l i q e = by (fits (row r) xs) (leb (i + (1 + size_of r)) (length l)) e
   where
     by : (a b : Bool)
-        → pick a (pick b (Upto (i + (1 + size_of r))) (Unwritten (refused 7))) (Unwritten (refused 18)) ≡ Unwritten q
+        → pick a (pick b (Ok (i + (1 + size_of r))) (Err (refused 7))) (Err (refused 18)) ≡ Err q
         → pick a (pick b (sets l i (row_bytes r (number_of (row r) xs))) l) l ≡ l
     by true true e = apart (cc)
     by true false e = refl
     by false true e = refl
     by false false e = refl
 
-pub command_kept : (c : Command) (l : List ℕ) (i : ℕ) (q : Refusal) → command_written c (length l) i ≡ Unwritten q
+pub command_kept : (c : Command) (l : List ℕ) (i : ℕ) (q : Refusal) → command_written c (length l) i ≡ Err q
     → command_in c l i ≡ l
 command_kept c l i q e = row_kept (row_at c) (values_of c) l i q e
 
-pub fields_kept : (up : Bool) (id : ℕ) (xs l : List ℕ) (i : ℕ) (q : Refusal) → fields_written up id xs (length l) i ≡ Unwritten q
+pub fields_kept : (up : Bool) (id : ℕ) (xs l : List ℕ) (i : ℕ) (q : Refusal) → fields_written up id xs (length l) i ≡ Err q
     → fields_in up id xs l i ≡ l
 unfolding fields_written fields_in
 fields_kept up id xs l i q e = by (known id) e
   where
-    by : (b : Bool) → pick b (written_as (row_of up id) xs (length l) i) (Unwritten (refused 16)) ≡ Unwritten q
+    by : (b : Bool) → pick b (written_as (row_of up id) xs (length l) i) (Err (refused 16)) ≡ Err q
         → pick b (written_in (row_of up id) xs l i) l ≡ l
     by true e = row_kept (row_of up id) xs l i q e
     by false e = refl
@@ -473,37 +471,37 @@ fields_kept up id xs l i q e = by (known id) e
 module _ (f : List ℕ) where
   -- a frame that is read as data has the fields that it has
   of_frame : (r : Reading) → Says f r
-      → on_data (λ d. Lists (lists_of d)) NoLists r ≡ on_data (λ d. Lists (lists_of (data_of f))) NoLists r
-  of_frame JoinRequest s = refl
-  of_frame (JoinAccept n) s = refl
-  of_frame (Data d) s = ap (λ (x : DataFrame). Lists (lists_of x)) s.1
-  of_frame (NotRead r) s = refl
+      → on_data (λ d. Ok (lists_of d)) Err r ≡ on_data (λ d. Ok (lists_of (data_of f))) Err r
+  of_frame (Ok JoinRequest) s = refl
+  of_frame (Ok (JoinAccept n)) s = refl
+  of_frame (Ok (Data d)) s = ap (λ (x : DataFrame). Ok (lists_of x)) s.1
+  of_frame (Err r) s = refl
 
-  in_frame : in_frame_of f ≡ on data_frame (Lists (lists_of (data_of f))) NoLists (read_of f)
+  in_frame : in_frame_of f ≡ on data_frame (Ok (lists_of (data_of f))) Err (read_of f)
   unfolding in_frame_of
   in_frame = of_frame (read_of f) (answers f)
 
-  lists_told : (n : ℕ) → lists_refusal (lists_answer f n) ≡ refused n
-  lists_told = says_told NoLists (Lists (lists_of (data_of f))) lists_refusal (λ r. refl) refl
+  lists_told : (n : ℕ) → refusal_in (lists_answer f n) ≡ refused n
+  lists_told = says_told Err (Ok (lists_of (data_of f))) refusal_in (λ r. refl) refl
 
-  pub command_lists : AfterReading NoLists (lists_answer f) data_frame f [] (in_frame_of f)
+  pub command_lists : AfterReading Err (lists_answer f) data_frame f [] (in_frame_of f)
   command_lists =
       rw in_frame
-      (after_reading NoLists (lists_answer f) lists_refusal (λ r. refl) lists_told data_frame f
-      (λ h. no_more (lists_answer f) lists_refusal lists_told))
+      (after_reading Err (lists_answer f) refusal_in (λ r. refl) lists_told data_frame f
+      (λ h. no_more (lists_answer f) refusal_in lists_told))
 
   -- so lists are given exactly of a data frame, and no others than its own
-  given : (l : CommandLists) (r : Reading) → Says f r → on_data (λ d. Lists (lists_of d)) NoLists r ≡ Lists l
+  given : (l : CommandLists) (r : Reading) → Says f r → on_data (λ d. Ok (lists_of d)) Err r ≡ Ok l
       → IsData f × (l ≡ lists_of (data_of f))
-  given l JoinRequest s e = apart (cc)
-  given l (JoinAccept n) s e = apart (cc)
-  given l (Data d) s e = let same : lists_of d ≡ l = cc in (s.0, sym same ∙ ap lists_of s.1)
-  given l (NotRead r) s e = apart (cc)
+  given l (Ok JoinRequest) s e = apart (cc)
+  given l (Ok (JoinAccept n)) s e = apart (cc)
+  given l (Ok (Data d)) s e = let same : lists_of d ≡ l = cc in (s.0, sym same ∙ ap lists_of s.1)
+  given l (Err r) s e = apart (cc)
 
-  pub lists_found : (l : CommandLists) → Exactly (in_frame_of f ≡ Lists l) (IsData f × (l ≡ lists_of (data_of f)))
+  pub lists_found : (l : CommandLists) → Exactly (in_frame_of f ≡ Ok l) (IsData f × (l ≡ lists_of (data_of f)))
   unfolding in_frame_of
   lists_found l =
       record {
         there = given l (read_of f) (answers f);
-        back = λ h. (command_lists.own 0 tt).back (h.0, refl) ∙ ap Lists (sym h.1);
+        back = λ h. (command_lists.own 0 tt).back (h.0, refl) ∙ ap Ok (sym h.1);
       }

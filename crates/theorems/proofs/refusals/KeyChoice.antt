@@ -1,7 +1,9 @@
 -- The key of a payload goes by the payload's bytes: the network key where there is none, and else by the port. It is the key
 -- that the crate's report of the port selects, for every data frame. A port with nothing behind it changes nothing.
 -- Assumes nothing.
-use mathlib.Core.Path.{◌≡◌, refl, sym, ap, ap₂, ◌∙◌}
+use Rattle.std.specs.Prelude.{is_some}
+use Rattle.std.specs.Prelude.{Err, None, Ok, Option, Some}
+use mathlib.Core.Path.{◌≡◌, refl, sym, ap, ◌∙◌}
 use mathlib.Core.Bool.{Bool, true}
 use mathlib.Core.List.{List}
 use Prim.Native.Nat.{ℕ, ◌+◌, ◌%◌, ◌<◌}
@@ -17,16 +19,13 @@ use Rattle.frame.specs.Layout.{fcnt, fhdr_length_of, fport, header_end_of, paylo
 use Rattle.frame.specs.Reading.{read_of}
 use Rattle.frame.specs.Refusals.{refused}
 use Rattle.frame.specs.ReadingNumbers.{on_data}
-use Rattle.frame.specs.declared.keys.MaybeKey.{MaybeKey}
-use Rattle.frame.specs.declared.parser.FPort.TheVariants.{Absent, Port}
-use Rattle.frame.specs.declared.parser.Reading.{Reading}
-use Rattle.frame.specs.declared.parser.Reading.TheVariants.{JoinRequest, JoinAccept, Data, Refused}
+use Rattle.frame.specs.Reading.{Reading}
+use Rattle.frame.specs.declared.parser.Frame.TheVariants.{JoinRequest, JoinAccept, Data}
 use Rattle.frame.proofs.LayoutLaws.{placed, length-payload}
 use Rattle.frame.proofs.ReadingLaws.{reads_data, data_read}
 use Rattle.frame_security.specs.Security.{by_network_key_of, frame_key, full_counter_of}
 use Rattle.frame_security.proofs.SecurityLaws.{by_port, crypted_part-nothing}
 use Rattle.frame_opening.specs.FrameOpening.{outcome, unopened, decrypted, opened_under, data_opened}
-use Rattle.frame_opening.specs.declared.payload.Opening.TheVariants.{Opened}
 use Rattle.theorems.specs.KeyChoice.{crate_reports, selected_by, opened_as_before, OpensEmpty}
 
 module _ (f : List ℕ) (h : IsData f) where
@@ -54,10 +53,10 @@ module _ (f : List ℕ) (h : IsData f) where
       by_order (length f) (fhdr_length_of f + 6)
       (λ l.
       by_empty (omega (arith, length-payload f)) nwk app
-      ∙ ap (λ (b : Bool). selected_by (pick b (Port (fport f)) Absent) nwk app) (sym (le-ltb (fhdr_length_of f + 6) (length f) l)))
+      ∙ ap (λ (b : Bool). selected_by (pick b (Some (fport f)) None) nwk app) (sym (le-ltb (fhdr_length_of f + 6) (length f) l)))
       (λ l.
       by_its_port (omega (arith, length-payload f)) nwk app
-      ∙ ap (λ (b : Bool). selected_by (pick b (Port (fport f)) Absent) nwk app) (sym (lt-ltb (fhdr_length_of f + 6) (length f) l)))
+      ∙ ap (λ (b : Bool). selected_by (pick b (Some (fport f)) None) nwk app) (sym (lt-ltb (fhdr_length_of f + 6) (length f) l)))
 
   -- ---- a frame without a byte of payload
 
@@ -70,18 +69,24 @@ module _ (f : List ℕ) (h : IsData f) where
     unfolding decrypted
     stays key counter = crypted_part-nothing key f (full_counter_of counter (fcnt f)) (header_end_of f) (payload_end_of f) (sym no_byte)
 
-    by_network : (nwk app : MaybeKey) (counter : ℕ) → data_opened nwk app counter f ≡ opened_under nwk counter f
+    by_network : (nwk app : Option (List ℕ)) (counter : ℕ) → data_opened nwk app counter f ≡ opened_under nwk counter f
     unfolding data_opened
     by_network nwk app counter =
         ap (on_data (λ d. opened_under (frame_key f nwk app) counter f) (unopened f)) (reads_data f h)
-        ∙ ap (λ (k : MaybeKey). opened_under k counter f) (by_empty none nwk app)
+        ∙ ap (λ (k : Option (List ℕ)). opened_under k counter f) (by_empty none nwk app)
 
-    by_given : (nwk app : MaybeKey) (counter : ℕ) {b : Bool} → nwk.given ≡ b
-        → data_opened nwk app counter f ≡ pick b (outcome Opened f) (unopened f (refused 6))
+    empty_under : (k : Option (List ℕ)) (counter : ℕ)
+        → opened_under k counter f ≡ pick (is_some k) (outcome (Ok tt) f) (unopened f (refused 6))
     unfolding opened_under
+    empty_under None counter = refl
+    empty_under (Some key) counter = ap (outcome (Ok tt)) (stays key counter)
+
+    by_given : (nwk app : Option (List ℕ)) (counter : ℕ) {b : Bool} → is_some nwk ≡ b
+        → data_opened nwk app counter f ≡ pick b (outcome (Ok tt) f) (unopened f (refused 6))
     by_given nwk app counter e =
         by_network nwk app counter
-        ∙ ap₂ (λ (c : Bool) (l : List ℕ). pick c (outcome Opened l) (unopened f (refused 6))) e (stays nwk.key counter)
+        ∙ empty_under nwk counter
+        ∙ ap (λ (c : Bool). pick c (outcome (Ok tt) f) (unopened f (refused 6))) e
 
     pub opens_empty : OpensEmpty f
     opens_empty =
@@ -93,14 +98,14 @@ module _ (f : List ℕ) (h : IsData f) where
 -- ---- of any bytes
 
 -- what an opening answers, and every byte that it leaves, is what it was by the crate's report
-module _ (nwk app : MaybeKey) (counter : ℕ) (f : List ℕ) where
+module _ (nwk app : Option (List ℕ)) (counter : ℕ) (f : List ℕ) where
   by_reading : (r : Reading) → read_of f ≡ r
       → on_data (λ d. opened_under (frame_key f nwk app) counter f) (unopened f) r
       ≡ on_data (λ d. opened_under (selected_by (crate_reports f) nwk app) counter f) (unopened f) r
-  by_reading JoinRequest e = refl
-  by_reading (JoinAccept n) e = refl
-  by_reading (Data d) e = ap (λ (k : MaybeKey). opened_under k counter f) (key_kept f (data_read f e) nwk app)
-  by_reading (Refused r) e = refl
+  by_reading (Ok JoinRequest) e = refl
+  by_reading (Ok (JoinAccept n)) e = refl
+  by_reading (Ok (Data d)) e = ap (λ (k : Option (List ℕ)). opened_under k counter f) (key_kept f (data_read f e) nwk app)
+  by_reading (Err r) e = refl
 
   pub opening_kept : data_opened nwk app counter f ≡ opened_as_before nwk app counter f
   unfolding data_opened

@@ -1,6 +1,8 @@
 -- Writing a MAC command of six numbers refuses exactly where it is to (docs/RULES.md, Refusals, From C): 16, 18 and 7 by the numbers
 -- as they are given, also negative ones and those that no field could hold.
 -- Assumes nothing.
+use Rattle.frame.specs.Refusals.{refusal_in}
+use Rattle.std.specs.Prelude.{Err, Ok}
 use mathlib.Core.Path.{◌≡◌, refl, sym, ap, ◌∙◌, subst}
 use mathlib.Core.Bool.{Bool, true, false, not}
 use mathlib.Core.List.{List}
@@ -15,12 +17,11 @@ use Rattle.base.proofs.Cases.{by_bool, by_order, by_equal}
 use Rattle.frame.specs.Refusals.{refused}
 use Rattle.mac_commands.specs.Commands.{raw_of, put_as, written_as, fields_written}
 use Rattle.mac_commands.specs.Layout.{fits, count_in_row, width_at, downs, ups, row, row_of, known, size_of}
-use Rattle.mac_commands.specs.declared.maccommandcreator.Written.TheVariants.{Upto, Refused as Unwritten}
 use Rattle.mac_commands.proofs.TableLaws.{count_most, width_most}
 use Rattle.command_numbers.specs.Numbers.{unsigned_of, id_of_number, bits_of_number, number, id_given, values_given}
 use Rattle.command_numbers.proofs.NumberLaws.{status_bits, other_bits, down_bits}
 use Rattle.theorems.specs.Exactly.{Exactly}
-use Rattle.theorems.specs.CommandConditions.{Unknown, Unfit, unfit, NoRoom, Writes, written_refusal, written_of}
+use Rattle.theorems.specs.CommandConditions.{Unknown, Unfit, unfit, NoRoom, Writes, written_of}
 use Rattle.theorems.specs.CommandConditions as plain
 use Rattle.theorems.specs.NumberConditions.{UnknownNumber, low, high, OutsideBits, negative, large, row_given, UnfitNumber, margin, value, number_conditions, numbers_written}
 use Rattle.theorems.proofs.refusals.CommandRefusals.{if_unknown, no_row, if_unfit, if_over, told, writes, margin_outside, outside_margin}
@@ -212,12 +213,12 @@ module _ (up : Bool) (zs : List ℤ) (n i : ℕ) where
       let is_Known = known (id_given zs) in
       let all_fit = fits (row (row_given up zs)) (values_given up zs) in
       let room = leb next n in
-      passed (written_of next) written_refusal (told next) tt is_Known
+      passed (written_of next) refusal_in (told next) tt is_Known
       (if_when (not is_Known) (if_not is_Known (if_unknown_number (number zs 0))))
-      (passed (written_of next) written_refusal (told next) tt all_fit
+      (passed (written_of next) refusal_in (told next) tt all_fit
       (if_when (not all_fit) (if_not all_fit (if_unfit_number up zs)))
-      (passed (written_of next) written_refusal (told next) tt room (if_when (not room) (if_not room (if_over next n)))
-      (no_more (written_of next) written_refusal (told next))))
+      (passed (written_of next) refusal_in (told next) tt room (if_when (not room) (if_not room (if_over next n)))
+      (no_more (written_of next) refusal_in (told next))))
 
   -- 16, 18, 7
   pub numbers_write : Writes (number_conditions up zs n i) (i + (1 + size_of (row_given up zs))) (numbers_written up zs n i)
@@ -225,19 +226,19 @@ module _ (up : Bool) (zs : List ℤ) (n i : ℕ) where
   numbers_write = writes next numbers_give
 
   -- written out
-  pub numbers_16 : Exactly (numbers_written up zs n i ≡ Unwritten (refused 16)) (UnknownNumber (number zs 0))
+  pub numbers_16 : Exactly (numbers_written up zs n i ≡ Err (refused 16)) (UnknownNumber (number zs 0))
   numbers_16 = numbers_write.refuses 16 (omega arith)
 
-  pub numbers_18 : Exactly (numbers_written up zs n i ≡ Unwritten (refused 18))
+  pub numbers_18 : Exactly (numbers_written up zs n i ≡ Err (refused 18))
       ((UnknownNumber (number zs 0) → ⊥) × UnfitNumber up zs)
   numbers_18 = numbers_write.refuses 18 (omega arith)
 
-  pub numbers_7 : Exactly (numbers_written up zs n i ≡ Unwritten (refused 7))
+  pub numbers_7 : Exactly (numbers_written up zs n i ≡ Err (refused 7))
       ((UnknownNumber (number zs 0) → ⊥) × ((UnfitNumber up zs → ⊥) × NoRoom (row_given up zs) n i))
   numbers_7 = numbers_write.refuses 7 (omega arith)
 
   pub numbers_written_lem : (m : ℕ)
-      → Exactly (numbers_written up zs n i ≡ Upto m)
+      → Exactly (numbers_written up zs n i ≡ Ok m)
       ((m ≡ i + (1 + size_of (row_given up zs)))
       × ((UnknownNumber (number zs 0) → ⊥) × ((UnfitNumber up zs → ⊥) × (NoRoom (row_given up zs) n i → ⊥))))
   numbers_written_lem m = with_none (number_conditions up zs n i) tt (numbers_write.writes m)

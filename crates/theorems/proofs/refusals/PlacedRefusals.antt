@@ -2,6 +2,9 @@
 -- place, and every other one is at place 0. It follows from when each call refuses: a refusal with a place is none of its own.
 -- A step of reading MAC commands is the one call that has places of its own; `step_answers` of `CommandRefusals` fixes them.
 -- Assumes nothing.
+use Rattle.mac_commands.specs.declared.in_frame.CommandLists.{CommandLists}
+use Rattle.frame.specs.Refusals.{refusal_in}
+use Rattle.std.specs.Prelude.{Err, Ok, Result, false}
 use mathlib.Core.Path.{◌≡◌, refl, ap, subst}
 use mathlib.Core.Bool.{Bool, true, not}
 use mathlib.Core.List.{List, [], ◌∷◌}
@@ -14,29 +17,19 @@ use Rattle.frame.specs.Reading.{read_of}
 use Rattle.frame.specs.ReadingNumbers.{number_of, place_of, plain_values_of, data_values_of, values_of}
 use Rattle.frame.specs.Refusals.{refusal, refused}
 use Rattle.frame.specs.declared.refusals.Refusal.{Refusal}
-use Rattle.frame.specs.declared.parser.Reading.{Reading}
-use Rattle.frame.specs.declared.parser.Reading.TheVariants.{JoinRequest, JoinAccept, Data, Refused}
-use Rattle.frame_opening.specs.FrameOpening.{test_refusal, opening_refusal}
-use Rattle.frame_opening.specs.declared.mic_tests.MicTest.{MicTest}
-use Rattle.frame_opening.specs.declared.mic_tests.MicTest.TheVariants.{Passes, Fails, Refused as RefusedTest}
-use Rattle.frame_opening.specs.declared.payload.Opening.{Opening}
-use Rattle.frame_opening.specs.declared.payload.Opening.TheVariants.{Opened, Refused as RefusedOpening}
+use Rattle.frame.specs.Reading.{Reading}
+use Rattle.frame.specs.declared.parser.Frame.TheVariants.{JoinRequest, JoinAccept, Data}
 use Rattle.frame_build.specs.DataBuilding.{data_refusal_of}
-use Rattle.frame_build.specs.DataFrames.{data_frame_of, built_of, built_refusal}
+use Rattle.frame_build.specs.DataFrames.{data_frame_of, built_of}
 use Rattle.frame_build.specs.JoinBuilding.{join_request_refusal, join_accept_refusal_of}
 use Rattle.frame_build.specs.JoinFrames.{join_request_of, join_accept_of}
-use Rattle.frame_build.specs.declared.creator.Built.TheVariants.{Frame, Refused as NotBuilt}
 use Rattle.frame_c.specs.CGiven.{data_refused}
 use Rattle.mac_commands.specs.Commands.{command_written, fields_written}
 use Rattle.mac_commands.specs.InFrame.{in_frame_of}
-use Rattle.mac_commands.specs.declared.in_frame.InFrame.{InFrame}
-use Rattle.mac_commands.specs.declared.in_frame.InFrame.TheVariants.{Lists, Refused as NoLists}
-use Rattle.mac_commands.specs.declared.maccommandcreator.Written.{Written}
-use Rattle.mac_commands.specs.declared.maccommandcreator.Written.TheVariants.{Upto, Refused as Unwritten}
 use Rattle.show_text.specs.Text.{text_of, text_of_input, text_room, described_of}
 use Rattle.theorems.specs.Exactly.{Condition, NotOwn, Refuses}
 use Rattle.theorems.specs.ByReading.{Needs, data_frame, ByReading, keeps, other, of_reading, AfterReading}
-use Rattle.theorems.specs.CommandConditions.{Writes, written_refusal, lists_answer, lists_refusal}
+use Rattle.theorems.specs.CommandConditions.{Writes, lists_answer}
 use Rattle.theorems.specs.NumberConditions.{numbers_written}
 use Rattle.theorems.specs.OpeningConditions.{Tests, opening_of}
 use Rattle.theorems.specs.Places.{Reads, read, view, request_fields, accept_fields, session_keys, request_stored, accept_stored, keys_stored, request_mic, accept_mic, data_mic, decrypt_data, decrypt_data_checked, decrypt_accept, decrypt_accept_checked, open_frame, amend_frame, command_lists, reads_refusal, Others, amend, amend_list, take_out, build_data, build_kind, build_request, build_accept, write_command, write_fields, write_numbers, describe, describe_input, others_refusal, Call, reads, others, refusal_of, ReaderRefuses, Placed}
@@ -73,7 +66,7 @@ reading_not_own (c ∷ cs) r t o =
 
 module _ (f : List ℕ) where
   abbrev Reader : Refusal → Type 0
-  Reader s = read_of f ≡ Refused s
+  Reader s = read_of f ≡ Err s
 
   -- a refusal that reading gives, where the reader does not refuse, is 4 at place 0
   other_type : (k : Needs) (r : Refusal) → ByReading k f r → ((s : Refusal) → Reader s → ⊥) → r.place ≡ 0
@@ -89,52 +82,52 @@ module _ (f : List ℕ) where
       }
 
   -- an opening
-  opening_at : (k : Needs) (cs : List Condition) (x : Opening) → AfterReading RefusedOpening opening_of k f cs x
-      → ((s : Refusal) → Reader s → ⊥) → (opening_refusal x).place ≡ 0
-  opening_at k cs Opened a n = refl
-  opening_at k cs (RefusedOpening r) a n =
+  opening_at : (k : Needs) (cs : List Condition) (x : (Result (Unit {0}) Refusal)) → AfterReading Err opening_of k f cs x
+      → ((s : Refusal) → Reader s → ⊥) → (refusal_in x).place ≡ 0
+  opening_at k cs (Ok tt) a n = refl
+  opening_at k cs (Err r) a n =
       by_equal r.place 0 (λ e. e) (λ m. other_type k r ((a.reading r (placed_not_own cs r m)).there refl) n)
 
-  opening_placed : (k : Needs) (cs : List Condition) → T (past_reading cs) → (x : Opening)
-      → AfterReading RefusedOpening opening_of k f cs x → Placed Reader (opening_refusal x)
+  opening_placed : (k : Needs) (cs : List Condition) → T (past_reading cs) → (x : (Result (Unit {0}) Refusal))
+      → AfterReading Err opening_of k f cs x → Placed Reader (refusal_in x)
   opening_placed k cs t x a =
       record {
-        handed_on = λ s q. ap opening_refusal ((a.reading s (reading_not_own cs s t (reading_number f k s (keeps q)))).back (keeps q));
+        handed_on = λ s q. ap refusal_in ((a.reading s (reading_not_own cs s t (reading_number f k s (keeps q)))).back (keeps q));
         else_0 = opening_at k cs x a;
       }
 
   -- the lists of MAC commands
-  lists_at : (cs : List Condition) (x : InFrame) → AfterReading NoLists (lists_answer f) data_frame f cs x
-      → ((s : Refusal) → Reader s → ⊥) → (lists_refusal x).place ≡ 0
-  lists_at cs (Lists l) a n = refl
-  lists_at cs (NoLists r) a n =
+  lists_at : (cs : List Condition) (x : (Result CommandLists Refusal)) → AfterReading Err (lists_answer f) data_frame f cs x
+      → ((s : Refusal) → Reader s → ⊥) → (refusal_in x).place ≡ 0
+  lists_at cs (Ok l) a n = refl
+  lists_at cs (Err r) a n =
       by_equal r.place 0 (λ e. e) (λ m. other_type data_frame r ((a.reading r (placed_not_own cs r m)).there refl) n)
 
-  lists_placed : Placed Reader (lists_refusal (in_frame_of f))
+  lists_placed : Placed Reader (refusal_in (in_frame_of f))
   lists_placed =
       let a = commands.command_lists f in
       record {
-        handed_on = λ s q. ap lists_refusal ((a.reading s (reading_not_own [] s tt (reading_number f data_frame s (keeps q)))).back (keeps q));
+        handed_on = λ s q. ap refusal_in ((a.reading s (reading_not_own [] s tt (reading_number f data_frame s (keeps q)))).back (keeps q));
         else_0 = lists_at [] (in_frame_of f) a;
       }
 
   -- a MIC test
-  test_at : (k : Needs) {Right : Type 0} (t : MicTest) → Tests k f Right t → ((s : Refusal) → Reader s → ⊥)
-      → (test_refusal t).place ≡ 0
-  test_at k Passes a n = refl
-  test_at k Fails a n = refl
-  test_at k (RefusedTest r) a n = other_type k r ((a.reading r).there refl) n
+  test_at : (k : Needs) {Right : Type 0} (t : (Result Bool Refusal)) → Tests k f Right t → ((s : Refusal) → Reader s → ⊥)
+      → (refusal_in t).place ≡ 0
+  test_at k (Ok true) a n = refl
+  test_at k (Ok false) a n = refl
+  test_at k (Err r) a n = other_type k r ((a.reading r).there refl) n
 
-  test_placed : (k : Needs) {Right : Type 0} (t : MicTest) → Tests k f Right t → Placed Reader (test_refusal t)
+  test_placed : (k : Needs) {Right : Type 0} (t : (Result Bool Refusal)) → Tests k f Right t → Placed Reader (refusal_in t)
   test_placed k t a =
-      record { handed_on = λ s q. ap test_refusal ((a.reading s).back (keeps q)); else_0 = test_at k t a }
+      record { handed_on = λ s q. ap refusal_in ((a.reading s).back (keeps q)); else_0 = test_at k t a }
 
   -- reading itself, and the view
   reading_at : (r : Reading) → read_of f ≡ r → ((s : Refusal) → Reader s → ⊥) → place_of r ≡ 0
-  reading_at JoinRequest q n = refl
-  reading_at (JoinAccept m) q n = refl
-  reading_at (Data d) q n = refl
-  reading_at (Refused s) q n = absurd (n s q)
+  reading_at (Ok JoinRequest) q n = refl
+  reading_at (Ok (JoinAccept m)) q n = refl
+  reading_at (Ok (Data d)) q n = refl
+  reading_at (Err s) q n = absurd (n s q)
 
   read_placed : Placed Reader (reads_refusal f read)
   read_placed =
@@ -145,10 +138,10 @@ module _ (f : List ℕ) where
 
   shown : (r : Reading) → refusal (values_of r).number (values_of r).place ≡ refusal (number_of r) (place_of r)
   unfolding plain_values_of data_values_of
-  shown JoinRequest = refl
-  shown (JoinAccept m) = refl
-  shown (Data d) = refl
-  shown (Refused s) = refl
+  shown (Ok JoinRequest) = refl
+  shown (Ok (JoinAccept m)) = refl
+  shown (Ok (Data d)) = refl
+  shown (Err s) = refl
 
   view_placed : Placed Reader (reads_refusal f view)
   view_placed = rw (shown (read_of f)) read_placed
@@ -181,14 +174,14 @@ at_0 e = record { handed_on = λ s b. absurd b; else_0 = λ n. e }
 refuses_at_0 : {cs : List Condition} {x : Refusal} → Refuses cs x → x.place ≡ 0
 refuses_at_0 {cs} {x} a = by_equal x.place 0 (λ e. e) (λ m. absurd (a.no_other x (placed_not_own cs x m) refl))
 
-built_at_0 : (n long : ℕ) → (built_refusal (built_of n long)).place ≡ 0
-built_at_0 n long = ap (λ (r : Refusal). r.place) (says_told NotBuilt (Frame long) built_refusal (λ r. refl) refl n)
+built_at_0 : (n long : ℕ) → (refusal_in (built_of n long)).place ≡ 0
+built_at_0 n long = ap (λ (r : Refusal). r.place) (says_told Err (Ok long) refusal_in (λ r. refl) refl n)
 
-written_at_0 : {cs : List Condition} {next : ℕ} (w : Written) → Writes cs next w → (written_refusal w).place ≡ 0
-written_at_0 (Upto m) a = refl
-written_at_0 {cs} (Unwritten q) a = by_equal q.place 0 (λ e. e) (λ m. absurd (a.no_other q (placed_not_own cs q m) refl))
+written_at_0 : {cs : List Condition} {next : ℕ} (w : (Result ℕ Refusal)) → Writes cs next w → (refusal_in w).place ≡ 0
+written_at_0 (Ok m) a = refl
+written_at_0 {cs} (Err q) a = by_equal q.place 0 (λ e. e) (λ m. absurd (a.no_other q (placed_not_own cs q m) refl))
 
-described_at_0 : (text out : List ℕ) → (described_of text out).refusal.place ≡ 0
+described_at_0 : (text out : List ℕ) → (refusal_in (described_of text out)).place ≡ 0
 unfolding described_of
 described_at_0 text out = by_bool (ltb (length out) text_room) (λ e. simp e refl) (λ e. simp e refl)
 

@@ -1,6 +1,7 @@
 -- A call that reads a frame first hands on what reading gives, and goes by its own conditions exactly where the frame is what it
 -- needs. By cases on what the reader answers, once for all calls.
 -- Assumes nothing.
+use Rattle.std.specs.Prelude.{Err, Ok}
 use mathlib.Core.Path.{◌≡◌, refl, sym, ap, ◌∙◌, subst}
 use mathlib.Core.List.{List}
 use mathlib.Core.Logic.{◌⊎◌, inl, inr, ⊎_elim}
@@ -14,8 +15,8 @@ use Rattle.frame.specs.Reading.{read_of, data_of}
 use Rattle.frame.specs.ReadingNumbers.{number_of, on_request, on_accept, on_data}
 use Rattle.frame.specs.Refusals.{refused}
 use Rattle.frame.specs.declared.refusals.Refusal.{Refusal}
-use Rattle.frame.specs.declared.parser.Reading.{Reading}
-use Rattle.frame.specs.declared.parser.Reading.TheVariants.{JoinRequest, JoinAccept, Data, Refused}
+use Rattle.frame.specs.Reading.{Reading}
+use Rattle.frame.specs.declared.parser.Frame.TheVariants.{JoinRequest, JoinAccept, Data}
 use Rattle.frame.proofs.ReadingLaws.{Says, answers, refusal_read, reads_request, reads_accept, reads_data}
 use Rattle.theorems.specs.Exactly.{Condition}
 use Rattle.theorems.specs.ByReading.{Needs, join_request, join_accept, data_frame, Is, ByReading, keeps, other, of_reading, AfterReading}
@@ -33,9 +34,9 @@ on data_frame x e r = on_data (λ d. x) e r
 module _ (f : List ℕ) where
   -- the reading of a frame that is needed
   read_as : Needs → Reading
-  read_as join_request = JoinRequest
-  read_as join_accept = JoinAccept (length f)
-  read_as data_frame = Data (data_of f)
+  read_as join_request = (Ok JoinRequest)
+  read_as join_accept = Ok (JoinAccept (length f))
+  read_as data_frame = Ok (Data (data_of f))
 
   reads_as : (k : Needs) → Is k f → read_of f ≡ read_as k
   unfolding read_as
@@ -53,18 +54,18 @@ module _ (f : List ℕ) where
 
   -- the frame is what is needed, or reading gives a refusal
   sorted : (k : Needs) (r : Reading) → read_of f ≡ r → Says f r → Is k f ⊎ ((s : Refusal) × ByReading k f s)
-  sorted join_request JoinRequest q s = inl s
-  sorted join_request (JoinAccept n) q s = inr (another join_request (JoinAccept n) s refl (λ h. omega arith))
-  sorted join_request (Data d) q s = inr (another join_request (Data d) s refl (λ h. omega arith))
-  sorted join_request (Refused r) q s = inr (r, keeps q)
-  sorted join_accept JoinRequest q s = inr (another join_accept JoinRequest s refl (λ h. omega arith))
-  sorted join_accept (JoinAccept n) q s = inl (own_length n s)
-  sorted join_accept (Data d) q s = inr (another join_accept (Data d) s refl (λ h. omega arith))
-  sorted join_accept (Refused r) q s = inr (r, keeps q)
-  sorted data_frame JoinRequest q s = inr (another data_frame JoinRequest s refl (λ h. omega arith))
-  sorted data_frame (JoinAccept n) q s = inr (another data_frame (JoinAccept n) s refl (λ h. omega arith))
-  sorted data_frame (Data d) q s = inl s.0
-  sorted data_frame (Refused r) q s = inr (r, keeps q)
+  sorted join_request (Ok JoinRequest) q s = inl s
+  sorted join_request (Ok (JoinAccept n)) q s = inr (another join_request (Ok (JoinAccept n)) s refl (λ h. omega arith))
+  sorted join_request (Ok (Data d)) q s = inr (another join_request (Ok (Data d)) s refl (λ h. omega arith))
+  sorted join_request (Err r) q s = inr (r, keeps q)
+  sorted join_accept (Ok JoinRequest) q s = inr (another join_accept (Ok JoinRequest) s refl (λ h. omega arith))
+  sorted join_accept (Ok (JoinAccept n)) q s = inl (own_length n s)
+  sorted join_accept (Ok (Data d)) q s = inr (another join_accept (Ok (Data d)) s refl (λ h. omega arith))
+  sorted join_accept (Err r) q s = inr (r, keeps q)
+  sorted data_frame (Ok JoinRequest) q s = inr (another data_frame (Ok JoinRequest) s refl (λ h. omega arith))
+  sorted data_frame (Ok (JoinAccept n)) q s = inr (another data_frame (Ok (JoinAccept n)) s refl (λ h. omega arith))
+  sorted data_frame (Ok (Data d)) q s = inl s.0
+  sorted data_frame (Err r) q s = inr (r, keeps q)
 
   pub either_way : (k : Needs) → Is k f ⊎ ((s : Refusal) × ByReading k f s)
   either_way k = sorted k (read_of f) refl (answers f)
@@ -93,25 +94,25 @@ module _ {A : Type 0} (x : A) (e : Refusal → A) (f : List ℕ) where
   needed data_frame h = ap (on data_frame x e) (reads_as f data_frame h)
 
   -- of a refused reading, its own refusal
-  keeps_refusal : (k : Needs) (r : Refusal) → on k x e (Refused r) ≡ e r
+  keeps_refusal : (k : Needs) (r : Refusal) → on k x e (Err r) ≡ e r
   keeps_refusal join_request r = refl
   keeps_refusal join_accept r = refl
   keeps_refusal data_frame r = refl
 
   -- of a frame of another type, 4
   other_gives : (k : Needs) (r : Reading) → Says f r → Passes f → (Is k f → ⊥) → on k x e r ≡ e (refused 4)
-  other_gives join_request JoinRequest s p n = absurd (n s)
-  other_gives join_request (JoinAccept m) s p n = refl
-  other_gives join_request (Data d) s p n = refl
-  other_gives join_request (Refused r) s p n = absurd (not_both f r s p)
-  other_gives join_accept JoinRequest s p n = refl
-  other_gives join_accept (JoinAccept m) s p n = absurd (n (own_length f m s))
-  other_gives join_accept (Data d) s p n = refl
-  other_gives join_accept (Refused r) s p n = absurd (not_both f r s p)
-  other_gives data_frame JoinRequest s p n = refl
-  other_gives data_frame (JoinAccept m) s p n = refl
-  other_gives data_frame (Data d) s p n = absurd (n s.0)
-  other_gives data_frame (Refused r) s p n = absurd (not_both f r s p)
+  other_gives join_request (Ok JoinRequest) s p n = absurd (n s)
+  other_gives join_request (Ok (JoinAccept m)) s p n = refl
+  other_gives join_request (Ok (Data d)) s p n = refl
+  other_gives join_request (Err r) s p n = absurd (not_both f r s p)
+  other_gives join_accept (Ok JoinRequest) s p n = refl
+  other_gives join_accept (Ok (JoinAccept m)) s p n = absurd (n (own_length f m s))
+  other_gives join_accept (Ok (Data d)) s p n = refl
+  other_gives join_accept (Err r) s p n = absurd (not_both f r s p)
+  other_gives data_frame (Ok JoinRequest) s p n = refl
+  other_gives data_frame (Ok (JoinAccept m)) s p n = refl
+  other_gives data_frame (Ok (Data d)) s p n = absurd (n s.0)
+  other_gives data_frame (Err r) s p n = absurd (not_both f r s p)
 
   -- so what reading gives is handed on
   pub handed_on : (k : Needs) (r : Refusal) → ByReading k f r → on k x e (read_of f) ≡ e r

@@ -1,6 +1,7 @@
 -- Each refusal of reading, number and place, is given exactly where its fault is found, and accepted frames are exactly the rest. The
 -- way there is `answers`; the way back `reads_fault`.
 -- Assumes nothing.
+use Rattle.std.specs.Prelude.{Err, Ok}
 use mathlib.Core.Path.{◌≡◌, refl, sym, ◌∙◌, subst}
 use mathlib.Core.Bool.{false}
 use mathlib.Core.List.{List}
@@ -17,8 +18,8 @@ use Rattle.frame.specs.ReadingNumbers.{number_of}
 use Rattle.frame.specs.Refusals.{refusal}
 use Rattle.frame.specs.Conditions.{IsJoinRequest, IsJoinAccept, IsData, WrongJoinLength, request, accept, Gives12, Gives1, Gives2, Gives3, Gives4Join, Gives4Header, Found, Passes, Gives}
 use Rattle.frame.specs.declared.refusals.Refusal.{Refusal}
-use Rattle.frame.specs.declared.parser.Reading.{Reading}
-use Rattle.frame.specs.declared.parser.Reading.TheVariants.{JoinRequest, JoinAccept, Data, Refused}
+use Rattle.frame.specs.Reading.{Reading}
+use Rattle.frame.specs.declared.parser.Frame.TheVariants.{JoinRequest, JoinAccept, Data}
 use Rattle.theorems.specs.Exactly.{Exactly, choice}
 use Rattle.frame.proofs.ReadingLaws.{Says, answers, refusal_read, reads_fault, given-number}
 
@@ -89,22 +90,22 @@ module _ (f : List ℕ) where
   not_both r g p = not_found g.fault g.found p
 
   pub passes : (r : Reading) → Says f r → number_of r ≡ 0 → Passes f
-  passes JoinRequest s e =
+  passes (Ok JoinRequest) s e =
       record { not_12 = omega arith; not_1 = omega arith; not_2 = s.version; not_3 = omega arith; not_join = request_right s; not_header = λ h. omega arith }
-  passes (JoinAccept n) s e =
+  passes (Ok (JoinAccept n)) s e =
       let long : (12 ≤ n) × (n ≤ 255) = ⊎_elim (λ q. (omega arith, omega arith)) (λ q. (omega arith, omega arith)) s.either in
       record { not_12 = omega arith; not_1 = omega arith; not_2 = s.version; not_3 = omega arith; not_join = accept_right n s; not_header = λ h. omega arith }
-  passes (Data d) s e =
+  passes (Ok (Data d)) s e =
       record { not_12 = s.0.most; not_1 = s.0.least; not_2 = s.0.version; not_3 = s.0.below; not_join = data_right s.0; not_header = λ h. s.0.fits }
-  passes (Refused r) s e = absurd (omega (arith, given-number f r s, e))
+  passes (Err r) s e = absurd (omega (arith, given-number f r s, e))
 
   accepts : (r : Reading) → Says f r → Passes f → number_of r ≡ 0
-  accepts JoinRequest s h = refl
-  accepts (JoinAccept n) s h = refl
-  accepts (Data d) s h = refl
-  accepts (Refused r) s h = absurd (not_both r s h)
+  accepts (Ok JoinRequest) s h = refl
+  accepts (Ok (JoinAccept n)) s h = refl
+  accepts (Ok (Data d)) s h = refl
+  accepts (Err r) s h = absurd (not_both r s h)
 
-  -- ---- the theorem: each fault is answered, by its number and at its place, exactly where it is found
+  -- ---- the theorem: each fault is Ok, by its number and at its place, exactly where it is found
 
   pub refuses : (x : Fault) → Exactly (read_of f ≡ refuse x f) (Found x f)
   refuses x = record { there = λ e. only x (refusal_read f e); back = reads_fault f x }
@@ -114,25 +115,25 @@ module _ (f : List ℕ) where
   number_0 = record { there = passes (read_of f) (answers f); back = accepts (read_of f) (answers f) }
 
   -- and no other refusal is given
-  pub no_other : (r : Refusal) → read_of f ≡ Refused r → Gives f r
+  pub no_other : (r : Refusal) → read_of f ≡ Err r → Gives f r
   no_other r e = refusal_read f e
 
   -- ---- number by number, written out
 
-  pub number_12 : Exactly (read_of f ≡ Refused (refusal 12 (length f))) (Gives12 f)
+  pub number_12 : Exactly (read_of f ≡ Err (refusal 12 (length f))) (Gives12 f)
   number_12 = refuses too_long
 
-  pub number_1 : Exactly (read_of f ≡ Refused (refusal 1 (length f))) (Gives1 f)
+  pub number_1 : Exactly (read_of f ≡ Err (refusal 1 (length f))) (Gives1 f)
   number_1 = refuses too_short
 
-  pub number_2 : Exactly (read_of f ≡ Refused (refusal 2 0)) (Gives2 f)
+  pub number_2 : Exactly (read_of f ≡ Err (refusal 2 0)) (Gives2 f)
   number_2 = refuses version
 
-  pub number_3 : Exactly (read_of f ≡ Refused (refusal 3 0)) (Gives3 f)
+  pub number_3 : Exactly (read_of f ≡ Err (refusal 3 0)) (Gives3 f)
   number_3 = refuses type
 
-  pub number_4_join : Exactly (read_of f ≡ Refused (refusal 4 (length f))) (Gives4Join f)
+  pub number_4_join : Exactly (read_of f ≡ Err (refusal 4 (length f))) (Gives4Join f)
   number_4_join = refuses join_length
 
-  pub number_4_header : Exactly (read_of f ≡ Refused (refusal 4 5)) (Gives4Header f)
+  pub number_4_header : Exactly (read_of f ≡ Err (refusal 4 5)) (Gives4Header f)
   number_4_header = refuses header

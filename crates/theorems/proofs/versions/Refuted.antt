@@ -1,6 +1,10 @@
 -- No version that docs/RULES.md names meets what its call is held to: a reader is held to both sides of each limit, a
 -- builder to the length of its frame, and an amendment to every list, of which the two frames of `TwoFrames` tell.
 -- Assumes nothing.
+use Rattle.frame.specs.declared.refusals.Refusal.{Refusal}
+use Rattle.frame.specs.Refusals.{refusal_in}
+use Rattle.amend.specs.OpenFrame.{state_in}
+use Rattle.std.specs.Prelude.{Err, None, Ok, Result}
 use mathlib.Core.Path.{◌≡◌, refl, sym, ap, ap₂, ◌∙◌}
 use mathlib.Core.Bool.{true, false}
 use mathlib.Core.List.{List, [], ◌∷◌}
@@ -12,20 +16,16 @@ use Rattle.frame.specs.Conditions.{IsData}
 use Rattle.frame.specs.Layout.{header, mic_of}
 use Rattle.frame.specs.ReadingNumbers.{number_of, data_values_of, values_of}
 use Rattle.frame.specs.Reading.{port_of, payload_of, data_of, read_data_of, read_type_of, read_of}
-use Rattle.frame.specs.declared.parser.FPort.TheVariants.{Absent}
-use Rattle.frame.specs.declared.parser.Reading.{Reading}
+use Rattle.frame.specs.Reading.{Reading}
 use Rattle.frame.specs.declared.numbers.Values.{Values}
 use Rattle.frame_security.specs.Sealing.{sealed}
 use Rattle.frame_build.specs.DataBuilding.{data_refusal_of, data_header, fixed_header_of}
-use Rattle.frame_build.specs.declared.creator.Built.{Built}
-use Rattle.frame_build.specs.declared.creator.Built.TheVariants.{Frame, Refused}
 use Rattle.frame_build.specs.declared.creator.data_frame.DataParts.{DataParts}
 use Rattle.frame_build.proofs.DataBuiltLaws.{frame_long}
 use Rattle.amend.specs.Amending.{amend_of}
 use Rattle.amend.specs.AmendmentLists.{Amendment, amended_by, payload_by, Stands}
 use Rattle.amend.specs.OpenFrame.{held, opened_of, open_of}
 use Rattle.amend.specs.declared.amending.Open.{Open}
-use Rattle.amend.specs.declared.opening.Opened.{Opened}
 use Rattle.amend.proofs.Accepted.{accepted_opens}
 use Rattle.amend.proofs.Demand3.{state_after}
 use Rattle.amend.proofs.Sealed.{sealed-header, sealed_clear, sealed-accepted}
@@ -60,11 +60,11 @@ same_for_all read meets same =
 
 -- an unconfirmed uplink without a port
 abbrev fields : DataParts
-fields = record { confirmed = false; uplink = true; dev_addr = tab 4 (λ i. 0); fctrl = 0; fcnt = 0; port = Absent }
+fields = record { confirmed = false; uplink = true; dev_addr = tab 4 (λ i. 0); fctrl = 0; fcnt = 0; port = None }
 
-abbrev length_of : Built → ℕ
-length_of (Frame n) = n
-length_of (Refused r) = 0
+abbrev length_of : (Result ℕ Refusal) → ℕ
+length_of (Ok n) = n
+length_of (Err r) = 0
 
 -- without commands a frame has 12 bytes, with one of one byte 13
 pub made_up_length : (n : ℕ) (build : Builder) → BuildsData build → Reports n build → ⊥
@@ -84,12 +84,12 @@ is_data : IsData template
 is_data = record { least = omega arith; most = omega arith; version = refl; from = omega arith; below = omega arith; fits = omega arith }
 
 -- the frame that is opened, with a clear byte 0
-abbrev opened : Opened
+abbrev opened : Result Open Refusal
 opened = open_of (frame_of 0) key_B key_B 0
 
-opens : opened.refusal.number ≡ 0
+opens : (refusal_in opened).number ≡ 0
 opens =
-    ap (λ (o : Opened). o.refusal.number)
+    ap (λ (o : Result Open Refusal). (refusal_in o).number)
     (accepted_opens (frame_of 0) key_B key_B 0 (sealed-accepted template key_B key_B 0 is_data (0 ∷ []) refl refl))
 
 -- that byte set to v
@@ -112,13 +112,13 @@ mic_byte f = at (drop 10 f) 0
 pub untouched_refuted : Amends untouched → ⊥
 unfolding payload_by
 untouched_refuted meets =
-    let one = stands (set_to 1 ∷ []) opened.state (meets (frame_of 0) key_B key_B 0 opens (set_to 1 ∷ [])) in
-    let two = stands (set_to 2 ∷ []) opened.state (meets (frame_of 0) key_B key_B 0 opens (set_to 2 ∷ [])) in
+    let one = stands (set_to 1 ∷ []) (state_in opened) (meets (frame_of 0) key_B key_B 0 opens (set_to 1 ∷ [])) in
+    let two = stands (set_to 2 ∷ []) (state_in opened) (meets (frame_of 0) key_B key_B 0 opens (set_to 2 ∷ [])) in
     let same : ◌≡◌ {A = ℕ} 0xaa 0x6c = ap mic_byte (sym (one ∙ frame_of_1) ∙ two ∙ frame_of_2) in
     omega (arith, same)
 
 -- the right state after the first amendment
-first : (amend_of opened.state 0 1).state ≡ opened_of (frame_of 1) key_B key_B 0
+first : (amend_of (state_in opened) 0 1).state ≡ opened_of (frame_of 1) key_B key_B 0
 unfolding amended_by payload_by
 first =
     state_after (frame_of 0) key_B key_B 0 opens (set_to 1 ∷ [])
@@ -133,7 +133,7 @@ both = set_to 1 ∷ set_to 2 ∷ []
 abbrev standing : Open → List ℕ
 standing s = take s.length s.frame
 
-left_over : mic_byte (standing (signs_first opened.state both)) ≡ 0xaa
+left_over : mic_byte (standing (signs_first (state_in opened) both)) ≡ 0xaa
 unfolding signs_first stores_only opened_of held
 left_over =
     ap (λ (s : Open). mic_byte (standing (stored s 0 2)))
@@ -142,7 +142,7 @@ left_over =
 pub signs_first_refuted : Amends signs_first → ⊥
 unfolding payload_by
 signs_first_refuted meets =
-    let s = signs_first opened.state both in
+    let s = signs_first (state_in opened) both in
     let same : ◌≡◌ {A = ℕ} 0xaa 0x6c = sym left_over ∙ ap mic_byte (stands both s (meets (frame_of 0) key_B key_B 0 opens both) ∙ frame_of_2) in
     omega (arith, same)
 
@@ -150,7 +150,7 @@ signs_first_refuted meets =
 pub constant_mic_refuted : (amend : Open → List Amendment → Open) → Amends amend → ConstantMic amend → ⊥
 unfolding payload_by
 constant_mic_refuted amend meets constant =
-    let s = opened.state in
+    let s = (state_in opened) in
     let one = stands (set_to 1 ∷ []) (amend s (set_to 1 ∷ [])) (meets (frame_of 0) key_B key_B 0 opens (set_to 1 ∷ [])) in
     let two = stands (set_to 2 ∷ []) (amend s (set_to 2 ∷ [])) (meets (frame_of 0) key_B key_B 0 opens (set_to 2 ∷ [])) in
     let same : ◌≡◌ {A = ℕ} 0xaa 0x6c =

@@ -17,16 +17,15 @@ loop-i-preserved c =
     let ks = args.schedule.now in
     let f = args.frame.now in
     let l = c.loop-i in (
-      search rules,
-      c.put.auto.out ∙ l.invariant.1,
+      c.put.auto.out ∙ l.invariant.0,
       ap (chained ks f (args.to - (l.i + 1)) (l.i + 1))
           (c.put.ensures.list
           ∙ ap (sets l.chains (16 * (l.i + 1)))
           (c.next_chain-next.ensures
-          ∙ ap₂ (λ (x y : List ℕ). cipher ks (xor_lists x y)) (c.block_at-chain.ensures ∙ run_inside 16 l.chains (16 * l.i) (search rules))
-          (c.block_at-block.ensures ∙ run_inside 16 f (16 * l.i) (search rules))))
+          ∙ ap₂ (λ (x y : List ℕ). cipher ks (xor_lists x y)) (c.run_at-chain.ensures ∙ run_inside 16 l.chains (16 * l.i) (search rules))
+          (c.run_at-block.ensures ∙ run_inside 16 f (16 * l.i) (search rules))))
           ∙ carry_step ks f args.to l.i l.chains (search rules)
-          ∙ l.invariant.2,
+          ∙ l.invariant.1,
     )
 
 pub returns : goal.returns
@@ -34,7 +33,7 @@ returns c =
     let args = c.args in
     let l = c.loop-i in
     sym (carry_done args.schedule.now args.frame.now args.to l.i l.chains c.loop-i-test.false)
-    ∙ l.invariant.2
+    ∙ l.invariant.1
 
 pub loop-i-init : goal.loop-i-init
-loop-i-init c = (search rules, refl, refl)
+loop-i-init c = (refl, refl)

@@ -21,4 +21,4 @@ returns c =
     ∙ ap finished
     (c.update.ensures
     ∙ ap (λ (s : Cmac). absorbed s rest)
-    (c.resume.ensures ∙ ap (resumed args.schedule.now) (c.block_at-chain.ensures ∙ run_inside 16 args.chains.now (16 * last_place args.n) (search rules)))))
+    (c.resume.ensures ∙ ap (resumed args.schedule.now) (c.run_at-chain.ensures ∙ run_inside 16 args.chains.now (16 * last_place args.n) (search rules)))))

@@ -1,85 +1,35 @@
--- `amend_frame` opens, applies a list that is not empty and stores the frame where nothing was refused. Assumes nothing.
-use Prim.Native.Nat.{◌≤◌}
-use mathlib.Core.Path.{◌≡◌, sym, ◌∙◌}
-use native.Mathlib.Omega.{arith}
+-- `amend_frame` opens, applies the list and stores the frame where nothing was refused. Assumes nothing.
+use Rattle.std.specs.Prelude.{Err}
+use mathlib.Core.Path.{◌≡◌, ap, ◌∙◌}
 use borrow.Author.Rules.{rules}
 use lib.ListN.{length, take}
-use lib.Seq.{length-take-le}
-use Rattle.amend.proofs.ListLaws.{accepted_most, refused_opening, empty_list, whole_list, refused_list, whole_stored}
+use Rattle.amend.specs.declared.amending.Open.{Open}
+use Rattle.amend.proofs.ListLaws.{refused_opening, whole_list, refused_list}
 use Rattle.amend.proofs.list.amend_frame.Goals as goal
 
-pub returns-then-refusal-ne0 : goal.returns-then-refusal-ne0
-returns-then-refusal-ne0 c =
+pub returns-in_err-state : goal.returns-in_err-state
+returns-in_err-state c =
     let args = c.args in
-    let o = c.open_frame-opening in
-    let both = refused_opening args.frame.now args.nwk_skey args.app_skey args.counter args.amendments.now o.result o.ensures
-    c.if-refusal-ne0.true in
-    record { value = both.0; frame_after = both.1 }
+    let both = refused_opening args.frame.now args.nwk_skey args.app_skey args.counter args.amendments.now c.in_err-state.ensures in
+    let same : c.from_residual.result ≡ Err c.in_err-state.field-0.0 = search rules in
+    record { value = same ∙ both.0; frame_after = both.1 }
 
-pub returns-then-amendments-eq0 : goal.returns-then-amendments-eq0
-returns-then-amendments-eq0 c =
+pub returns-in_err-amend_list : goal.returns-in_err-amend_list
+returns-in_err-amend_list c =
     let args = c.args in
-    let o = c.open_frame-opening in
-    let both = empty_list args.frame.now args.nwk_skey args.app_skey args.counter args.amendments.now o.result o.ensures
-    c.if-refusal-ne0.false c.if-amendments-eq0.true in
-    record { value = both.0; frame_after = both.1 }
+    let both = refused_list args.frame.now args.nwk_skey args.app_skey args.counter args.amendments.now c.in_ok-state.ensures
+    c.in_err-amend_list.ensures.value in
+    let same : c.from_residual-in_err-amend_list.result ≡ Err c.in_err-amend_list.field-0.0 = search rules in
+    record { value = same ∙ both.0; frame_after = both.1 }
 
-pub slice_bounds-held-end : goal.slice_bounds-held-end
-slice_bounds-held-end c =
-    let held_long : length c.amend_list-last.result.state.frame ≡ 255 = search rules in
-    let fits : length c.args.frame.now
-    ≤ length c.amend_list-last.result.state.frame = let args = c.args in
-    let o = c.open_frame-opening in
-    let most : length args.frame.now ≤ 255 =
-    accepted_most args.frame.now args.nwk_skey args.app_skey args.counter args.amendments.now o.result o.ensures
-    c.if-refusal-ne0.false in
-    let long = held_long in
-    omega arith in
-    fits
-
-pub slice_bounds-put-end : goal.slice_bounds-put-end
-slice_bounds-put-end c =
-    let held_long : length c.amend_list-last.result.state.frame ≡ 255 = search rules in
-    let fits : length c.args.frame.now
-    ≤ length c.amend_list-last.result.state.frame = let args = c.args in
-    let o = c.open_frame-opening in
-    let most : length args.frame.now ≤ 255 =
-    accepted_most args.frame.now args.nwk_skey args.app_skey args.counter args.amendments.now o.result o.ensures
-    c.if-refusal-ne0.false in
-    let long = held_long in
-    omega arith in
-    sym (length-take-le _ _ fits)
-
-pub returns-then-outcome-eq0 : goal.returns-then-outcome-eq0
-returns-then-outcome-eq0 c =
-    let held_long : length c.amend_list-last.result.state.frame ≡ 255 = search rules in
-    let fits : length c.args.frame.now
-    ≤ length c.amend_list-last.result.state.frame = let args = c.args in
-    let o = c.open_frame-opening in
-    let most : length args.frame.now ≤ 255 =
-    accepted_most args.frame.now args.nwk_skey args.app_skey args.counter args.amendments.now o.result o.ensures
-    c.if-refusal-ne0.false in
-    let long = held_long in
-    omega arith in
+pub returns : goal.returns
+returns c =
     let args = c.args in
     let f = args.frame.now in
-    let o = c.open_frame-opening in
-    let a = c.amend_list-last in
-    let held = a.result.state.frame in
-    let law = whole_list f args.nwk_skey args.app_skey args.counter args.amendments.now o.result o.ensures
-    c.if-refusal-ne0.false a.result a.ensures c.if-outcome-eq0.true in record {
-      value = law.0;
-      frame_after = c.put.ensures.list ∙ whole_stored f (take (length f) held) (length-take-le (length f) held fits) ∙ law.1;
+    let both = whole_list f args.nwk_skey args.app_skey args.counter args.amendments.now c.in_ok-state.ensures
+    c.in_ok-amend_list.ensures.value in record {
+      value = both.0;
+      frame_after = c.copy_from_slice.ensures.after
+          ∙ ap (λ (s : Open). take (length f) s.frame) c.in_ok-amend_list.ensures.state_after
+          ∙ both.1;
     }
-
-pub returns-else-outcome-eq0 : goal.returns-else-outcome-eq0
-returns-else-outcome-eq0 c =
-    let args = c.args in
-    let o = c.open_frame-opening in
-    let a = c.amend_list-last in
-    let both = refused_list args.frame.now args.nwk_skey args.app_skey args.counter args.amendments.now o.result o.ensures
-    c.if-refusal-ne0.false
-    a.result
-    a.ensures
-    c.if-outcome-eq0.false in
-    record { value = both.0; frame_after = both.1 }

@@ -1,41 +1,49 @@
--- `amend_list` tests every offset; where all lie inside it is `amended_list`. Assumes nothing.
+-- `amend_list` tests every offset; where all lie inside it is `amend_all_inside`. Assumes nothing.
+use Rattle.std.specs.Prelude.{Err}
 use Prim.Native.Nat.{ℕ}
 use mathlib.Core.Path.{◌≡◌, sym, ap, ◌∙◌}
-use native.Mathlib.Omega.{arith}
-use Rattle.frame.specs.Refusals.{not_refused}
-use Rattle.amend.specs.declared.amending.Open.{Open}
-use Rattle.amend.specs.Amending.{payload_length_of}
+use borrow.Author.Rules.{rules}
+use Rattle.amend.specs.Amending.{Amended, payload_length_of}
 use Rattle.amend.specs.SignedOnce.{all_inside_of}
 use Rattle.amend.proofs.SignedOnce.{list_none, list_inside, list_outside}
 use Rattle.amend.proofs.list.amend_list.Goals as goal
 
 -- an empty list
-pub returns-then-amendments-eq0 : goal.returns-then-amendments-eq0
-returns-then-amendments-eq0 c =
-    let args = c.args in
-    sym (list_none args.state args.amendments.now c.if-amendments-eq0.true)
+pub returns-then-is_empty : goal.returns-then-is_empty
+returns-then-is_empty c =
+    let is = list_none c.args.state.now c.args.amendments.now (search rules) in
+    record { value = sym (ap (λ (a : Amended). a.answer) is); state_after = sym (ap (λ (a : Amended). a.state) is) }
 
--- every offset is returns-then-all_inside, and there is one
-pub amended_list-after-requires : goal.amended_list-after-requires
-amended_list-after-requires c =
-    let tested : let args = c.args in
-    all_inside_of (payload_length_of args.state) args.amendments.now ≡ c.all_inside.result = let args = c.args in
-    sym (c.all_inside.ensures ∙ ap (λ (n : ℕ). all_inside_of n args.amendments.now) c.payload_length-count.ensures) in
-    (tested ∙ c.if-all_inside.true, omega (arith, c.if-amendments-eq0.false))
+-- an offset outside
+pub returns-then-not-all_inside : goal.returns-then-not-all_inside
+returns-then-not-all_inside c =
+    let s = c.args.state.now in
+    let es = c.args.amendments.now in
+    let tested : all_inside_of (payload_length_of s) es ≡ c.all_inside.result =
+    sym (c.all_inside.ensures ∙ ap (λ (n : ℕ). all_inside_of n es) c.payload_length-count.ensures) in
+    let is = list_outside s es (tested ∙ c.if-not-all_inside.true) in
+    record {
+      value = ap Err c.of.ensures ∙ sym (ap (λ (a : Amended). a.answer) is);
+      state_after = sym (ap (λ (a : Amended). a.state) is);
+    }
 
-pub returns-then-all_inside : goal.returns-then-all_inside
-returns-then-all_inside c =
-    let tested : let args = c.args in
-    all_inside_of (payload_length_of args.state) args.amendments.now ≡ c.all_inside.result = let args = c.args in
-    sym (c.all_inside.ensures ∙ ap (λ (n : ℕ). all_inside_of n args.amendments.now) c.payload_length-count.ensures) in
-    let args = c.args in
-    ap (λ (s : Open). record { refusal = not_refused; state = s }) c.amended_list-after.ensures
-    ∙ sym (list_inside args.state args.amendments.now (tested ∙ c.if-all_inside.true))
+-- every offset inside, and there is one
+pub amend_all_inside-requires : goal.amend_all_inside-requires
+amend_all_inside-requires c =
+    let s = c.args.state.now in
+    let es = c.args.amendments.now in
+    let tested : all_inside_of (payload_length_of s) es ≡ c.all_inside.result =
+    sym (c.all_inside.ensures ∙ ap (λ (n : ℕ). all_inside_of n es) c.payload_length-count.ensures) in
+    (tested ∙ c.if-not-all_inside.false, search rules)
 
 pub returns : goal.returns
 returns c =
-    let tested : let args = c.args in
-    all_inside_of (payload_length_of args.state) args.amendments.now ≡ c.all_inside.result = let args = c.args in
-    sym (c.all_inside.ensures ∙ ap (λ (n : ℕ). all_inside_of n args.amendments.now) c.payload_length-count.ensures) in
-    let args = c.args in
-    sym (list_outside args.state args.amendments.now (tested ∙ c.if-all_inside.false))
+    let s = c.args.state.now in
+    let es = c.args.amendments.now in
+    let tested : all_inside_of (payload_length_of s) es ≡ c.all_inside.result =
+    sym (c.all_inside.ensures ∙ ap (λ (n : ℕ). all_inside_of n es) c.payload_length-count.ensures) in
+    let is = list_inside s es (tested ∙ c.if-not-all_inside.false) in
+    record {
+      value = sym (ap (λ (a : Amended). a.answer) is);
+      state_after = c.amend_all_inside.ensures ∙ sym (ap (λ (a : Amended). a.state) is);
+    }

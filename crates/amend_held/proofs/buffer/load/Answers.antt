@@ -6,10 +6,10 @@ use Rattle.amend_held.proofs.buffer.load.Goals as goal
 pub returns : goal.returns
 returns c =
     loaded_is c.args.bytes (search rules)
-    c.wide-length.ensures
-    c.frame_from-frame.ensures
-    c.schedule_from-nwk_schedule.ensures
-    c.schedule_from-app_schedule.ensures
-    c.chains_from-chains.ensures
-    c.four_at-c.ensures
-    c.counter_from-counter.ensures
+    c.from-length.ensures
+    c.run_at-frame.ensures
+    c.run_at-nwk_schedule.ensures
+    c.run_at-app_schedule.ensures
+    c.run_at-chains.ensures
+    c.run_at.ensures
+    c.from_le_bytes-counter.ensures

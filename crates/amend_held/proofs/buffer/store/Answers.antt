@@ -20,4 +20,4 @@ returns c =
     c.put-4.ensures.list
     c.put-5.ensures.list
     c.put-6.ensures.list
-    c.four_bytes-counter.ensures
+    c.to_le_bytes-counter.ensures

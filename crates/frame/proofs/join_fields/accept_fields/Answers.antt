@@ -12,10 +12,8 @@ returns c =
     let pre = c.requires in
     let f = c.args.frame.now in
     rw (
-      c.three_at-app_nonce.ensures ∙ run_inside 3 f 1 (omega (arith, pre)),
-      c.three_at-net_id.ensures ∙ run_inside 3 f 4 (omega (arith, pre)),
-      c.four_at-dev_addr.ensures ∙ run_inside 4 f 7 (omega (arith, pre)),
-      c.cf_list-kind.ensures,
-      c.frequencies-values.ensures,
-      c.masks-bits.ensures,
+      c.run_at-app_nonce.ensures ∙ run_inside 3 f 1 (omega (arith, pre)),
+      c.run_at-net_id.ensures ∙ run_inside 3 f 4 (omega (arith, pre)),
+      c.run_at-dev_addr.ensures ∙ run_inside 4 f 7 (omega (arith, pre)),
+      c.cf_list-list.ensures,
     )

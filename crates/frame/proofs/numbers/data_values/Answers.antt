@@ -7,8 +7,8 @@ pub returns : goal.returns
 unfolding data_values_of
 returns c =
     rw (
-      c.port_given.ensures,
-      c.port_number.ensures,
+      c.is_some.ensures,
+      c.unwrap_or.ensures,
       c.payload_kind.ensures,
       c.payload_from.ensures,
       c.payload_to.ensures,

@@ -1,5 +1,6 @@
 -- `frame::parser::read_type` meets its contract. The message type is what the definition picks by.
 -- Assumes nothing.
+use Rattle.std.proofs.Common.{Err, ap}
 use mathlib.Core.Path.{sym, ◌∙◌}
 use native.Mathlib.Omega.{arith}
 use Rattle.frame.proofs.ReadingSteps.{type_request, type_accept, type_data, type_other}
@@ -16,4 +17,4 @@ pub returns-then-mtype-lt6 : goal.returns-then-mtype-lt6
 returns-then-mtype-lt6 c = c.read_data.ensures ∙ sym (type_data _ (omega arith) (omega arith))
 
 pub returns : goal.returns
-returns c = c.refused.ensures ∙ sym (type_other _ (omega arith))
+returns c = ap Err c.at.ensures ∙ sym (type_other _ (omega arith))

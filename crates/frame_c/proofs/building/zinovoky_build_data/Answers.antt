@@ -22,4 +22,4 @@ returns c =
     (ap (λ (d : DataParts). data_refusal_of d a.commands.now a.payload.now (length a.out.now)) parts
     ∙ sym (of_data _ _ _ _ _ c.if-kind-lt2.false c.if-kind-gt5.false))
     (ap (λ (d : DataParts). data_frame_of a.nwk_skey.now a.app_skey.now d a.commands.now a.payload.now) parts)
-    c.built_answer.ensures
+    c.value_answer.ensures

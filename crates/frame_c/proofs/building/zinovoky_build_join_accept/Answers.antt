@@ -14,4 +14,4 @@ returns c =
     let parts = c.accept_parts-parts.ensures in
     made c.build_join_accept-built.ensures.builds
     (ap (λ (j : JoinAcceptParts). join_accept_refusal_of j a.channels.now (length a.out.now)) parts)
-    (ap (λ (j : JoinAcceptParts). join_accept_of a.app_key.now j a.channels.now) parts) c.built_answer.ensures
+    (ap (λ (j : JoinAcceptParts). join_accept_of a.app_key.now j a.channels.now) parts) c.value_answer.ensures

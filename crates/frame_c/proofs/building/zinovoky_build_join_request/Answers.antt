@@ -5,4 +5,4 @@ use Rattle.frame_c.proofs.Buildings.{made}
 use Rattle.frame_c.proofs.building.zinovoky_build_join_request.Goals as goal
 
 pub returns : goal.returns
-returns c = made c.build_join_request-built.ensures.builds refl refl c.built_answer.ensures
+returns c = made c.build_join_request-built.ensures.builds refl refl c.value_answer.ensures

@@ -1,13 +1,13 @@
 -- `zinovoky_write_command` answers what `write_numbers` does, and leaves the output so.
 -- Assumes nothing.
 use mathlib.Core.Path.{ap, ◌∙◌}
-use Rattle.frame_c.specs.CCommands.{written_answer_of}
+use Rattle.frame_c.specs.CAnswers.{value_answer_of}
 use Rattle.frame_c.proofs.commands.zinovoky_write_command.Goals as goal
 
 pub returns : goal.returns
 returns c =
     let written = c.write_numbers-written.ensures in
     record {
-      value = c.written_answer.ensures ∙ ap written_answer_of written.value;
+      value = c.value_answer.ensures ∙ ap value_answer_of written.value;
       out_after = written.out_after;
     }

@@ -1,13 +1,13 @@
 -- `zinovoky_hold` answers what `open_into` does, and leaves the buffer so.
 -- Assumes nothing.
 use mathlib.Core.Path.{ap, ◌∙◌}
-use Rattle.frame_c.specs.CAnswers.{refusal_answer_of}
+use Rattle.frame_c.specs.CAnswers.{done_answer_of}
 use Rattle.frame_c.proofs.holding.zinovoky_hold.Goals as goal
 
 pub returns : goal.returns
 returns c =
-    let held = c.open_into-refusal.ensures in
+    let held = c.open_into-done.ensures in
     record {
-      value = c.refusal_answer.ensures ∙ ap refusal_answer_of held.value;
+      value = c.done_answer.ensures ∙ ap done_answer_of held.value;
       buffer_after = held.buffer_after;
     }

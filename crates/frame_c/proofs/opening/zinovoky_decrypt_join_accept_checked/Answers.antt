@@ -6,5 +6,5 @@ use Rattle.frame_c.proofs.opening.zinovoky_decrypt_join_accept_checked.Goals as 
 
 pub returns : goal.returns
 returns c =
-    let both = opened c.decrypt_join_accept_checked-opening.ensures (refl) c.opening_answer.ensures in
+    let both = opened c.decrypt_join_accept_checked-opening.ensures (refl) c.done_answer.ensures in
     record { value = both.0; frame_after = both.1 }

@@ -1,4 +1,4 @@
--- `clear_copy` lends the first bytes of the copy, which are the frame's, to `decrypt_join_accept`.
+-- `clear_copy` lends the first bytes of the copy, which are the frame's, to `decrypt_accept`.
 -- Assumes nothing.
 use native.Mathlib.Omega.{arith}
 use Rattle.frame_opening.proofs.CheckedLaws.{accept_long, copy_clear, copied}
@@ -11,5 +11,5 @@ slice_bounds-copy-end c =
 pub returns : goal.returns
 returns c =
     let f = c.args.frame.now in
-    copy_clear c.args.app_key f c.requires _ c.decrypt_join_accept.new.frame c.decrypt_join_accept.result
-    (copied _ f c.put.ensures (accept_long c.args.app_key f c.requires).1) c.decrypt_join_accept.ensures
+    copy_clear c.args.app_key f c.requires _ c.decrypt_accept.new.frame
+    (copied _ f c.put.ensures (accept_long c.args.app_key f c.requires).1) c.decrypt_accept.ensures

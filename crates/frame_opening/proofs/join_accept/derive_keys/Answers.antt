@@ -14,8 +14,8 @@ unfolding derived_keys
 returns c =
     let a = c.args in
     let f = a.frame.now in
-    let nonce = c.three_at-app_nonce.ensures ∙ run_inside 3 f 1 (omega (arith, c.requires)) in
-    let id = c.three_at-net_id.ensures ∙ run_inside 3 f 4 (omega (arith, c.requires)) in
+    let nonce = c.run_at-app_nonce.ensures ∙ run_inside 3 f 1 (omega (arith, c.requires)) in
+    let id = c.run_at-net_id.ensures ∙ run_inside 3 f 4 (omega (arith, c.requires)) in
     ap₂ (λ (x y : List ℕ). keys_of x y)
     (session_key_lem 1 a.app_key a.dev_nonce f nonce id c.expand-schedule.ensures
     c.key_block-nwk_block.ensures c.encrypt_under-nwk_skey.ensures)

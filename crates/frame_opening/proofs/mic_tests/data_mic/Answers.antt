@@ -1,29 +1,25 @@
--- `data_mic` tests the MIC where the reading is of the type that it needs, and refuses by the
--- reading where it is not.
+-- `data_mic` tests the MIC of a frame of the type that it needs, and hands on the refusal of any other.
 -- Assumes nothing.
-use mathlib.Core.Path.{sym, ◌∙◌}
-use native.Mathlib.Omega.{arith}
-use Rattle.frame_opening.specs.FrameOpening.{data_passes, answered, data_test_of}
-use Rattle.frame_opening.specs.declared.mic_tests.MicTest.TheVariants.{Refused}
-use Rattle.frame_opening.proofs.OpeningLaws.{no_data, a_data, data_length}
+use Rattle.std.proofs.Common.{Ok, Err, ap, ◌∙◌, arith}
+use Rattle.std.proofs.lemmas.Result.{err_from_is_err_and}
+use Rattle.frame.specs.Refusals.{by_result}
+use Rattle.frame.proofs.Others.{data_there}
+use Rattle.frame_opening.specs.FrameOpening.{data_passes, data_test_of}
+use Rattle.frame_opening.proofs.OpeningLaws.{data_length}
 use Rattle.frame_opening.proofs.mic_tests.data_mic.Goals as goal
 
-pub returns-in_default : goal.returns-in_default
+pub returns-in_err-read_as_data : goal.returns-in_err-read_as_data
 unfolding data_test_of
-returns-in_default c =
+returns-in_err-read_as_data c =
     let a = c.args in
-    c.no_test.ensures
-    ∙ no_data Refused a.frame.now c.read-reading.result c.read-reading.ensures
-    (λ d. answered (data_passes a.nwk_skey a.counter a.frame.now)) c.in_default.not-Data
+    let p = err_from_is_err_and c.from_residual.result c.from_residual.ensures.1 in
+    rw (p.1, p.2) (ap (by_result (λ d. Ok (data_passes a.nwk_skey a.counter a.frame.now)) Err) c.in_err-read_as_data.ensures)
 
 pub data_test-requires : goal.data_test-requires
-data_test-requires c =
-    omega (arith, data_length c.args.frame.now (sym c.read-reading.ensures ∙ c.in-Data.is))
+data_test-requires c = omega (arith, data_length c.args.frame.now (data_there _ c.in_ok-read_as_data.ensures))
 
 pub returns : goal.returns
 unfolding data_test_of
 returns c =
     let a = c.args in
-    c.data_test.ensures
-    ∙ a_data Refused a.frame.now c.read-reading.result c.read-reading.ensures
-    (λ d. answered (data_passes a.nwk_skey a.counter a.frame.now)) c.in-Data.is
+    ap Ok c.data_test.ensures ∙ ap (by_result (λ d. Ok (data_passes a.nwk_skey a.counter a.frame.now)) Err) c.in_ok-read_as_data.ensures

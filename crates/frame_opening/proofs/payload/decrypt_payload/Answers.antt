@@ -3,7 +3,7 @@
 use mathlib.Core.Path.{refl, ◌∙◌}
 use native.Mathlib.Omega.{arith}
 use Rattle.frame_security.specs.Security.{full_counter_of}
-use Rattle.frame_security.proofs.SecurityLaws.{crypted-nothing}
+use Rattle.frame_security.proofs.SecurityLaws.{crypted_nothing}
 use Rattle.frame_opening.proofs.OpeningLaws.{fopts_place, decrypted_in_place}
 use Rattle.frame_opening.proofs.payload.decrypt_payload.Goals as goal
 
@@ -15,7 +15,7 @@ header_end-start-requires c =
 pub returns-then-start-mic : goal.returns-then-start-mic
 returns-then-start-mic c =
     let whole = full_counter_of c.args.counter c.args.fields.fcnt in
-    crypted-nothing c.args.key c.args.frame.now whole c.header_end-start.result c.args.fields.mic (omega (arith, c.if-start-mic.true))
+    crypted_nothing c.args.key c.args.frame.now whole c.header_end-start.result c.args.fields.mic (omega (arith, c.if-start-mic.true))
     ∙ decrypted_in_place c.args.key c.args.frame.now c.args.counter c.args.fields c.requires.0 c.requires.1
     c.header_end-start.result c.header_end-start.ensures whole refl
 

@@ -13,7 +13,7 @@ loop-i-init c = (search rules, none _ _)
 
 pub loop-i-preserved : goal.loop-i-preserved
 loop-i-preserved c =
-    (search rules, four_more c.loop-i.i _ c.loop-i.invariant.1 c.put-end.ensures c.four_bytes-bytes.ensures (omega (arith, c.requires)))
+    (search rules, four_more c.loop-i.i _ c.loop-i.invariant.1 c.put-end.ensures c.to_le_bytes-bytes.ensures (omega (arith, c.requires)))
 
 pub returns : goal.returns
 returns c = four_all c.loop-i.i 5 _ c.loop-i.invariant.1 (omega arith)

@@ -1,33 +1,32 @@
 -- `store_accept` stores the fields and then the frequencies where nothing is refused and there is room, and else nothing.
 -- Assumes nothing.
-use mathlib.Core.Path.{◌≡◌, ◌∙◌}
-use mathlib.Core.List.{◌++◌}
-use native.Mathlib.Omega.{arith}
-use lib.ListN.{length, length-append}
-use borrow.Author.Rules.{rules}
-use Rattle.base.proofs.Put.{then, put_length}
-use Rattle.frame_c.specs.CStored.{accept_fixed, four_each}
-use Rattle.frame_c.proofs.FieldBytes.{fixed_long, four_each_long}
-use Rattle.frame_c.proofs.StoredLaws.{room_left, refused, stored}
+use Rattle.std.proofs.Common.{◌≡◌, length, sym, ap, ◌∙◌, arith}
+use lib.ListN.{length-append}
+use Rattle.base.proofs.Put.{put_length, then, renamed}
+use Rattle.frame.specs.JoinFields.{frequencies_of}
+use Rattle.frame_c.specs.CStored.{accept_fixed, four_each, accept_bytes}
+use Rattle.frame_c.proofs.FieldBytes.{four_each_long}
+use Rattle.frame_c.proofs.StoredLaws.{room_left, stored, not_stored}
 use Rattle.frame_c.proofs.conversions.reading.store_accept.Goals as goal
 
-pub returns-then-number-ne0 : goal.returns-then-number-ne0
-returns-then-number-ne0 c = refused c.or_short-number.ensures c.if-number-ne0.true c.numbered_bits.ensures
-
 pub put_fixed-end-requires : goal.put_fixed-end-requires
-put_fixed-end-requires c =
-    omega (arith, room_left _ _ _ c.or_short-number.ensures c.if-number-ne0.false)
+put_fixed-end-requires c = omega (arith, room_left c.args.fields 42 (length c.args.out.now) (sym c.fitted.ensures ∙ c.in-Ok.is))
 
 pub put_frequencies-requires : goal.put_frequencies-requires
 put_frequencies-requires c =
-    let fixed : length (accept_fixed c.args.fields) ≡ 22 = fixed_long c.args.fields (search rules) (search rules) (search rules) (search rules) in
-    let room = room_left _ _ _ c.or_short-number.ensures c.if-number-ne0.false in
-    omega (arith, room, c.put_fixed-end.ensures.next, put_length c.put_fixed-end.ensures, fixed)
+    let room = room_left c.args.fields 42 (length c.args.out.now) (sym c.fitted.ensures ∙ c.in-Ok.is) in
+    omega (arith, room, c.put_fixed-end.ensures.past, put_length c.put_fixed-end.ensures.stored)
 
-pub returns : goal.returns
-returns c =
-    let fixed : length (accept_fixed c.args.fields) ≡ 22 = fixed_long c.args.fields (search rules) (search rules) (search rules) (search rules) in
-    let long : length (accept_fixed c.args.fields ++ four_each 5 c.args.fields.frequencies) ≡ 42 = length-append (accept_fixed c.args.fields) (four_each 5 c.args.fields.frequencies)
-    ∙ omega (arith, fixed, four_each_long 5 c.args.fields.frequencies) in
-    stored _ _ c.or_short-number.ensures c.if-number-ne0.false long
-    c.numbered_bits-2.ensures (then c.put_fixed-end.ensures c.put_frequencies.ensures)
+pub returns-in-Ok : goal.returns-in-Ok
+returns-in-Ok c =
+    let j = c.in-Ok.found in
+    let fixed : length (accept_fixed j) ≡ 22 = omega (arith, c.put_fixed-end.ensures.stored.next, c.put_fixed-end.ensures.past) in
+    let long : length (accept_bytes j) ≡ 42 = length-append (accept_fixed j) (four_each 5 (frequencies_of j.cf_list))
+    ∙ omega (arith, fixed, four_each_long 5 (frequencies_of j.cf_list)) in
+    let here = sym c.fitted.ensures ∙ c.in-Ok.is in
+    let room = room_left c.args.fields 42 (length c.args.out.now) here in
+    let frequencies = renamed c.put_frequencies.ensures (ap (four_each 5) c.frequencies.ensures) in
+    stored here (omega (arith, long, room)) c.done_answer.ensures (then c.put_fixed-end.ensures.stored frequencies)
+
+pub returns-in-Err : goal.returns-in-Err
+returns-in-Err c = not_stored (sym c.fitted.ensures ∙ c.in-Err.is) c.refusal_answer.ensures
