@@ -49,6 +49,7 @@ pub fn decrypt_under(schedule: &[u8; 176], block: [u8; 16]) -> [u8; 16]
     steps::add_round_key(schedule, 0, steps::inv_sub_bytes(steps::inv_shift_rows(s)))
 }
 
+// Under a key that is used once. The two stay apart: a function over both would be given the cipher, and be no shorter.
 pub fn encrypt(key: [u8; 16], block: [u8; 16]) -> [u8; 16]
     ensures { result ≡ cipher (key_expansion_of key) block }
 {

@@ -13,7 +13,8 @@ use frame_security::mic::mic_of;
 use frame_security::securityhelpers::{by_network_key, start_of, stream_block};
 
 // An open frame: the bytes of the frame (zeros behind them) and how many they are, both keys expanded, the whole
-// counter, and what the MIC's chain holds ahead of each 16-byte block of the frame, sixteen bytes each.
+// counter, and what the MIC's chain holds ahead of each 16-byte block of the frame, sixteen bytes each. The rooms are fixed, with a
+// length beside: there is no heap, and a buffer from C holds the same bytes.
 #[derive(Clone, Copy)]
 pub struct Open {
     pub frame: [u8; 255],

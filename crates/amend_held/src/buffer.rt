@@ -1,4 +1,4 @@
-// An open frame in a buffer of 868 bytes: its fields at fixed places.
+// An open frame in a buffer of 868 bytes, which C lends: its fields at fixed places.
 ghost use Rattle.std.specs.Prelude.{◌≡◌};
 ghost use Rattle.amend_held.specs.HeldBuffer.{stored_open, loaded_open};
 

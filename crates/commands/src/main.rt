@@ -18,10 +18,7 @@ enum Arguments {
 // Whether there is an argument at a place, of any length.
 fn is_given(rt: &impl Env, place: usize) -> bool {
     let mut word = [0u8; 1];
-    match rt.arg(place, &mut word) {
-        Err(FillError::NotPresent) => false,
-        _ => true,
-    }
+    !matches!(rt.arg(place, &mut word), Err(FillError::NotPresent))
 }
 
 // Whether the first argument is the word `clear`.

@@ -49,10 +49,10 @@ fn request_fields(frame: &[u8]) -> JoinRequestFields
     let dev_nonce = run_at(frame, DEV_NONCE_AT);
     let mic = run_at(frame, REQUEST_MIC_AT);
     JoinRequestFields {
-        app_eui: app_eui,
-        dev_eui: dev_eui,
-        dev_nonce: dev_nonce,
-        mic: mic,
+        app_eui,
+        dev_eui,
+        dev_nonce,
+        mic,
     }
 }
 
@@ -68,7 +68,7 @@ pub fn join_request_fields(frame: &[u8]) -> Result<JoinRequestFields, Refusal>
 fn frequency(low: u8, middle: u8, high: u8) -> u32
     ensures { result ≡ low + middle * 256 + high * 65536 }
 {
-    (low as u32) + (middle as u32) * 256 + (high as u32) * 65536
+    u32::from_le_bytes([low, middle, high, 0])
 }
 
 fn five_frequencies(frame: &[u8]) -> [u32; 5]
@@ -108,9 +108,9 @@ fn accept_fields(frame: &[u8]) -> JoinAcceptFields
     let dev_addr = run_at(frame, ACCEPT_ADDR_AT);
     let list = cf_list(frame);
     JoinAcceptFields {
-        app_nonce: app_nonce,
-        net_id: net_id,
-        dev_addr: dev_addr,
+        app_nonce,
+        net_id,
+        dev_addr,
         dl_settings: frame[DL_SETTINGS_AT],
         rx_delay: frame[RX_DELAY_AT] % 16,
         cf_list: list,

@@ -63,10 +63,10 @@ fn plain_values(kind: u8, number: u8, place: usize, accept_len: usize) -> Values
     ensures { result ≡ plain_values_of kind number place accept_len }
 {
     Values {
-        kind: kind,
-        number: number,
-        place: place,
-        accept_len: accept_len,
+        kind,
+        number,
+        place,
+        accept_len,
         mtype: 0,
         fctrl: 0,
         fcnt: 0,

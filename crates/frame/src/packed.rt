@@ -1,4 +1,5 @@
-// A reading as one number of 64 bits. A data frame is read straight into it; what is none, `read` answers.
+// A reading as one number of 64 bits, for C, whose fields docs/RULES.md gives by what they are multiplied by. A data frame is read
+// straight into it, with no enum between; what is none, `read` answers.
 ghost use Rattle.std.specs.Prelude.{◌≡◌, ◌+◌, ◌*◌, ◌/◌, ◌%◌, ◌≤◌, ◌<◌, eqb, length};
 ghost use Rattle.base.specs.Bytes.{pick};
 ghost use Rattle.frame.specs.Conditions.{IsData};

@@ -54,7 +54,7 @@ pub fn fhdr_length(fctrl: u8) -> usize
 pub(crate) fn read_fcnt(low: u8, high: u8) -> u16
     ensures { result ≡ low + high * 256 }
 {
-    (low as u16) + (high as u16) * 256
+    u16::from_le_bytes([low, high])
 }
 
 // Whether a port is there, behind an FHDR of h bytes (4.3.2).
@@ -136,10 +136,10 @@ fn read_data(frame: &[u8]) -> Result<Frame, Refusal>
     let data = DataFrame {
         mtype: message_type(frame[0]),
         fctrl: frame[FCTRL_AT],
-        fcnt: fcnt,
+        fcnt,
         fopts_end: 1 + h,
-        port: port,
-        payload: payload,
+        port,
+        payload,
         mic: frame.len() - MIC_LEN,
     };
     Ok(Frame::Data(data))

@@ -32,11 +32,7 @@ impl FCtrl {
     pub fn adr_ack_req(self) -> bool
         ensures { result ≡ adr_ack_req_of self }
     {
-        let uplink = self.1;
-        if uplink {
-            return has_bit(self.0, 64);
-        }
-        false
+        self.1 && has_bit(self.0, 64)
     }
 
     pub fn ack(self) -> bool
@@ -49,11 +45,7 @@ impl FCtrl {
     pub fn f_pending(self) -> bool
         ensures { result ≡ f_pending_of self }
     {
-        let uplink = self.1;
-        if uplink {
-            return false;
-        }
-        has_bit(self.0, 16)
+        !self.1 && has_bit(self.0, 16)
     }
 
     pub fn f_opts_len(self) -> u8
@@ -98,19 +90,13 @@ impl FCtrl {
 pub fn is_uplink(mtype: u8) -> bool
     ensures { result ≡ uplink_of mtype }
 {
-    if mtype == 2 {
-        return true;
-    }
-    mtype == 4
+    matches!(mtype, 2 | 4)
 }
 
 pub fn is_confirmed(mtype: u8) -> bool
     ensures { result ≡ confirmed_of mtype }
 {
-    if mtype == 4 {
-        return true;
-    }
-    mtype == 5
+    matches!(mtype, 4 | 5)
 }
 
 // NwkID of an address (6.1.1): its seven high bits, which stand in its last byte in frame order. The crate takes the first byte

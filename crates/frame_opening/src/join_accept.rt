@@ -59,10 +59,7 @@ fn derive_keys(frame: &[u8], dev_nonce: [u8; 2], app_key: [u8; 16]) -> SessionKe
     let nwk_skey = aes::encrypt_under(&schedule, nwk_block);
     let app_block = key_block(2, app_nonce, net_id, dev_nonce);
     let app_skey = aes::encrypt_under(&schedule, app_block);
-    SessionKeys {
-        nwk_skey: nwk_skey,
-        app_skey: app_skey,
-    }
+    SessionKeys { nwk_skey, app_skey }
 }
 
 // The session keys that a clear join-accept gives a device with that DevNonce.

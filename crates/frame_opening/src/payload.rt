@@ -14,12 +14,7 @@ fn header_end(fields: DataFrame) -> usize
     requires { fields.fopts_end ≤ 255 }
     ensures { result ≡ min (fields.fopts_end + 1) fields.mic }
 {
-    let start = fields.fopts_end + 1;
-    let mic = fields.mic;
-    if start < mic {
-        return start;
-    }
-    mic
+    (fields.fopts_end + 1).min(fields.mic)
 }
 
 // 4.3.3: the key of a frame that was read as data.

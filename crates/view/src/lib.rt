@@ -15,6 +15,7 @@ use frame::parser::read;
 
 pub mod parts;
 
+// The numbers are those of docs/RULES.md, of a refusal too, so that a view is there of any bytes.
 #[derive(Clone, Copy)]
 pub struct View<'a> {
     pub bytes: &'a [u8],
