@@ -2,12 +2,12 @@
 -- Assumes nothing.
 use mathlib.Core.Path.{◌≡◌, refl, sym, ap, ap₂, ◌∙◌}
 use mathlib.Core.List.{List, [], ◌∷◌, ◌++◌}
-use Prim.Native.Nat.{ℕ, suc, ◌+◌, ◌≤◌}
+use Prim.Native.Nat.{ℕ, suc, ◌+◌, ◌≤◌, ◌<◌}
 use native.Mathlib.Nat.{add-zero}
 use native.Mathlib.Numerals.{add-one}
 use native.Mathlib.Omega.{arith}
-use lib.ListN.{length, drop, set, length-append}
-use lib.Seq.{sets, sets-eq, length-sets}
+use lib.ListN.{length, take, drop, set, length-append, length-set}
+use lib.Seq.{sets, sets-eq, length-sets, take-suc, length-take-le, take_all}
 use Rattle.base.specs.Bytes.{at}
 use Rattle.base.specs.Storing.{Put}
 
@@ -33,6 +33,17 @@ pub renamed : {l e : List ℕ} {i r : ℕ} {s t : List ℕ} → Put l i s r e �
 renamed {l} {e} {i} {r} {s} {t} p q =
     record { next = p.next ∙ ap (λ (m : List ℕ). i + length m) q; list = p.list ∙ ap (λ (m : List ℕ). sets l i m) q }
 
+-- one byte more of a string
+pub sets_more : (l : List ℕ) (i : ℕ) (s : List ℕ) (n : ℕ) → n < length s
+    → set (sets l i (take n s)) (i + n) (at s n) ≡ sets l i (take (n + 1) s)
+sets_more l i s n h =
+    let e : take (n + 1) s ≡ take n s ++ at s n ∷ [] = ap (λ (m : ℕ). take m s) (add-one n) ∙ take-suc s n 0 h in
+    let k : length (take n s) ≡ n = length-take-le n s (omega arith) in
+    sym
+    (ap (λ (t : List ℕ). sets l i t) e
+    ∙ sets-append l i (take n s) (at s n ∷ [])
+    ∙ ap (λ (m : ℕ). set (sets l i (take n s)) (i + m) (at s n)) k)
+
 -- a list keeps its length
 pub put_length : {l e : List ℕ} {i r : ℕ} {t : List ℕ} → Put l i t r e → length e ≡ length l
 put_length {l} {e} {i} {r} {t} p = ap length p.list ∙ length-sets l i t
@@ -42,6 +53,28 @@ pub put_front : {l e : List ℕ} {r : ℕ} {t : List ℕ} → Put l 0 t r e → 
 put_front {l} {e} {r} {t} p h =
     let e : 0 + length t ≡ length t = omega arith in
     p.list ∙ sets-eq t l 0 (omega arith) ∙ ap (λ (n : ℕ). t ++ drop n l) e
+
+-- ---- a loop that stores byte by byte: after n turns the first n bytes of s stand in e
+
+pub record Putting (l : List ℕ) (i : ℕ) (s e : List ℕ) (n : ℕ) : Type 0 where
+  pub upto : n ≤ length s
+  pub long : length e ≡ length l
+  pub so_far : e ≡ sets l i (take n s)
+
+pub start : (l : List ℕ) (i : ℕ) (s : List ℕ) → Putting l i s l 0
+start l i s = record { upto = omega arith; long = refl; so_far = refl }
+
+pub step : {l s e : List ℕ} {i n : ℕ} → Putting l i s e n → n < length s → Putting l i s (set e (i + n) (at s n)) (n + 1)
+step {l} {s} {e} {i} {n} h k =
+    record {
+      upto = omega arith;
+      long = length-set e (i + n) (at s n) ∙ h.long;
+      so_far = ap (λ (m : List ℕ). set m (i + n) (at s n)) h.so_far ∙ sets_more l i s n k;
+    }
+
+pub done : {l s e : List ℕ} {i n : ℕ} → Putting l i s e n → length s ≤ n → Put l i s (i + n) e
+done {l} {s} {e} {i} {n} h k =
+    record { next = omega (arith, h.upto); list = h.so_far ∙ ap (λ (m : List ℕ). sets l i m) (take_all n s k) }
 
 -- ---- what a writer of short pieces wants: nothing yet, two bytes, a run said otherwise
 

@@ -3,23 +3,29 @@
 -- Assumes nothing.
 use mathlib.Core.Path.{◌≡◌, refl, sym, ap, ◌∙◌}
 use mathlib.Core.Bool.{Bool}
-use mathlib.Core.List.{List, [], ◌∷◌, ◌++◌}
+use mathlib.Core.List.{List, [], ◌∷◌}
 use Prim.Native.Nat.{ℕ, suc, ◌+◌, ◌-◌, ◌≤◌, ◌<◌, min}
 use native.Mathlib.Omega.{arith}
 use lib.ListN.{length, take, drop, take-append-drop}
-use lib.Seq.{sets, set_out, length-sets, sets-eq, length-take-le, take_all}
+use lib.Seq.{sets, set_out, length-sets, length-take-le, take_all}
 use borrow.Author.Tests.{le-leb, lt-leb}
-use borrow.Rule.Slice.PartMut.{put_mid}
 use Rattle.base.specs.Bytes.{pick, part, zeros}
 use Rattle.base.proofs.Cases.{by_order}
-use Rattle.base.proofs.Lent.{put_back}
-use Rattle.base.proofs.Put.{sets-append}
+use Rattle.base.proofs.Put.{Putting, sets-append}
 use Rattle.base.specs.Storing.{Put, Stored, run_at}
 
 -- ---- a run of bytes
 
 pub fitted : {l s e : List ℕ} {i r : ℕ} → Stored l i s r e → i + length s ≤ length l → Put l i s r e
 fitted {l} {s} {e} {i} {r} p h = record { next = omega (arith, p.next); list = p.list }
+
+-- a loop that has stored as many bytes as it was to
+pub first_put : {l s e : List ℕ} {i k : ℕ} (n : ℕ) → Putting l i s e k → k ≡ n → Put l i (take n s) (i + k) e
+first_put {l} {s} {e} {i} {k} n p h =
+    record {
+      next = omega (arith, length-take-le n s (omega (arith, p.upto)));
+      list = p.so_far ∙ ap (λ (m : ℕ). sets l i (take m s)) h;
+    }
 
 -- past the end nothing is stored
 sets_past : (l : List ℕ) (i : ℕ) (s : List ℕ) → length l ≤ i → sets l i s ≡ l
@@ -37,18 +43,12 @@ sets_room l i s n e =
     ∙ sets-append l i (take n s) (drop n s)
     ∙ sets_past (sets l i (take n s)) (i + length (take n s)) (drop n s) (omega (arith, length-sets l i (take n s)))))
 
--- so where the bytes of s that find room take the place of those from i on, s is stored
-pub stored : (l : List ℕ) (i : ℕ) (s : List ℕ) (n : ℕ) → i < length l → n ≡ min (length s) (length l - i)
-    → Stored l i s (i + n) (put_mid i (i + n - i) l (take n s))
-stored l i s n h e =
-    let long : length (take n s) ≡ n = length-take-le n s (omega arith) in
+-- so where the first bytes of s that find room are stored, s is
+pub stored : {l s e : List ℕ} {i r : ℕ} (n : ℕ) → Put l i (take n s) r e → n ≡ min (length s) (length l - i) → Stored l i s r e
+stored {l} {s} {e} {i} {r} n p h =
     record {
-      next = ap (λ (m : ℕ). i + m) e;
-      list =
-          put_back i (i + n) l (take n s) (omega arith)
-          ∙ ap (λ (m : ℕ). take i l ++ take n s ++ drop (i + m) l) (sym long)
-          ∙ sym (sets-eq (take n s) l i (omega arith))
-          ∙ sets_room l i s n e;
+      next = omega (arith, p.next, length-take-le n s (omega arith));
+      list = p.list ∙ sets_room l i s n h;
     }
 
 -- and where there is no room at all, nothing is

@@ -12,7 +12,10 @@ pub fn put(out: &mut [u8], at: usize, src: &[u8]) -> usize
         return at;
     }
     let count = src.len().min(out.len() - at);
-    out[at..at + count].copy_from_slice(&src[..count]);
+    // Byte by byte: `copy_from_slice` would make the archive for C ask for `memmove`, which C callers need not have.
+    for i in 0..count {
+        out[at + i] = src[i];
+    }
     at + count
 }
 
