@@ -12,11 +12,12 @@ use lib.ListN.{length}
 use Rattle.frame.specs.Conditions.{IsJoinAccept, Passes}
 use Rattle.frame.specs.Faults.{Fault, too_long, too_short, version, type, join_length, header, number_of_fault}
 use Rattle.frame.specs.Reading.{read_of, data_of}
-use Rattle.frame.specs.ReadingNumbers.{number_of, on_request, on_accept, on_data}
+use Rattle.frame.specs.ReadingNumbers.{number_of, other_refusal_of, on_request, on_accept, on_data}
 use Rattle.frame.specs.Refusals.{refused}
 use Rattle.frame.specs.declared.refusals.Refusal.{Refusal}
 use Rattle.frame.specs.Reading.{Reading}
 use Rattle.frame.specs.declared.parser.Frame.TheVariants.{JoinRequest, JoinAccept, Data}
+use Rattle.frame.proofs.Others.{not_request, not_accept, not_data}
 use Rattle.frame.proofs.ReadingLaws.{Says, answers, refusal_read, reads_request, reads_accept, reads_data}
 use Rattle.theorems.specs.Exactly.{Condition}
 use Rattle.theorems.specs.ByReading.{Needs, join_request, join_accept, data_frame, Is, ByReading, keeps, other, of_reading, AfterReading}
@@ -51,6 +52,13 @@ module _ (f : List ℕ) where
   -- an accepted frame of another type gives 4
   another : (k : Needs) (r : Reading) → Says f r → number_of r ≡ 0 → (Is k f → ⊥) → (s : Refusal) × ByReading k f s
   another k r s z n = (refused 4, other (passes f r s z) n refl)
+
+  -- to a call that needs yet another
+  gives_4 : (r : Reading) → Says f r → Passes f → other_refusal_of r ≡ refused 4
+  gives_4 (Ok JoinRequest) s p = refl
+  gives_4 (Ok (JoinAccept n)) s p = refl
+  gives_4 (Ok (Data d)) s p = refl
+  gives_4 (Err r) s p = absurd (not_both f r s p)
 
   -- the frame is what is needed, or reading gives a refusal
   sorted : (k : Needs) (r : Reading) → read_of f ≡ r → Says f r → Is k f ⊎ ((s : Refusal) × ByReading k f s)
@@ -100,19 +108,13 @@ module _ {A : Type 0} (x : A) (e : Refusal → A) (f : List ℕ) where
   keeps_refusal data_frame r = refl
 
   -- of a frame of another type, 4
+  other_reading : (k : Needs) (r : Reading) → Says f r → (Is k f → ⊥) → on k x e r ≡ e (other_refusal_of r)
+  other_reading join_request r s n = not_request e x r (λ q. n (subst (λ (t : Reading). Says f t) q s))
+  other_reading join_accept r s n = not_accept e (λ m. x) r (λ m q. n (own_length f m (subst (λ (t : Reading). Says f t) q s)))
+  other_reading data_frame r s n = not_data e (λ d. x) r (λ d q. n (subst (λ (t : Reading). Says f t) q s).0)
+
   other_gives : (k : Needs) (r : Reading) → Says f r → Passes f → (Is k f → ⊥) → on k x e r ≡ e (refused 4)
-  other_gives join_request (Ok JoinRequest) s p n = absurd (n s)
-  other_gives join_request (Ok (JoinAccept m)) s p n = refl
-  other_gives join_request (Ok (Data d)) s p n = refl
-  other_gives join_request (Err r) s p n = absurd (not_both f r s p)
-  other_gives join_accept (Ok JoinRequest) s p n = refl
-  other_gives join_accept (Ok (JoinAccept m)) s p n = absurd (n (own_length f m s))
-  other_gives join_accept (Ok (Data d)) s p n = refl
-  other_gives join_accept (Err r) s p n = absurd (not_both f r s p)
-  other_gives data_frame (Ok JoinRequest) s p n = refl
-  other_gives data_frame (Ok (JoinAccept m)) s p n = refl
-  other_gives data_frame (Ok (Data d)) s p n = absurd (n s.0)
-  other_gives data_frame (Err r) s p n = absurd (not_both f r s p)
+  other_gives k r s p n = other_reading k r s n ∙ ap e (gives_4 f r s p)
 
   -- so what reading gives is handed on
   pub handed_on : (k : Needs) (r : Refusal) → ByReading k f r → on k x e (read_of f) ≡ e r
