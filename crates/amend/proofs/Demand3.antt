@@ -2,7 +2,7 @@
 -- amended, encrypted and signed afresh, and the state is the one that opening the frame as it then stands gives. By
 -- induction on the list: one amendment gives the opened state of the frame sealed anew, which opening accepts again.
 -- Assumes nothing.
-use Rattle.std.specs.Prelude.{Err}
+use Rattle.std.specs.Prelude.{Ok, Err}
 use mathlib.Core.Path.{◌≡◌, refl, sym, ap, ap₂, ◌∙◌, subst}
 use mathlib.Core.Bool.{Bool, true, false}
 use mathlib.Core.List.{List, [], ◌∷◌}
@@ -173,9 +173,9 @@ module _ (f nwk app : List ℕ) (counter : ℕ) where
   outside_refused e k v h = amend_outside (state_in (open_of f nwk app counter)) k v (omega (arith, count_is e))
 
   pub inside_accepted : (refusal_in (open_of f nwk app counter)).number ≡ 0 → (k v : ℕ) → k < length (payload f)
-      → (refusal_in (amend_of (state_in (open_of f nwk app counter)) k v).answer).number ≡ 0
+      → (amend_of (state_in (open_of f nwk app counter)) k v).answer ≡ Ok tt
   inside_accepted e k v h =
-      ap (λ (r : Amended). (refusal_in r.answer).number) (amend_inside (state_in (open_of f nwk app counter)) k v (omega (arith, count_is e)))
+      ap (λ (r : Amended). r.answer) (amend_inside (state_in (open_of f nwk app counter)) k v (omega (arith, count_is e)))
 
   -- naming a byte again: the later value decides
   pub later_decides : (refusal_in (open_of f nwk app counter)).number ≡ 0 → (k v w : ℕ)

@@ -12,7 +12,7 @@ use borrow.Author.Tests.{le-leb, lt-leb, lt-ltb, le-ltb}
 use Rattle.base.specs.Bytes.{pick}
 use Rattle.base.proofs.Cases.{by_order}
 use Rattle.frame.specs.Layout.{payload_start_of}
-use Rattle.frame.specs.Refusals.{refused, refusal_in}
+use Rattle.frame.specs.Refusals.{refused}
 use Rattle.amend.specs.declared.amending.Open.{Open}
 use Rattle.amend.specs.Amending.{Amended, open_state, stop, payload_length_of, encrypted_byte, carried, resigned, amended_to, amend_of}
 
@@ -63,9 +63,9 @@ pub amend_inside : (s : Open) (k v : ℕ) → k < payload_length_of s
 unfolding amend_of
 amend_inside s k v h = simp (lt-ltb k (payload_length_of s) h)
 
--- so whatever is refused is refused by 15 and gives the state that it was given
-pub refused_keeps : (s : Open) (k v : ℕ) → ((refusal_in (amend_of s k v).answer).number ≡ 0 → ⊥)
+-- so whatever is not Ok is refused by 15 and gives the state that it was given
+pub refused_keeps : (s : Open) (k v : ℕ) → ((amend_of s k v).answer ≡ Ok tt → ⊥)
     → amend_of s k v ≡ record { answer = Err (refused 15); state = s }
 refused_keeps s k v n =
     by_order (payload_length_of s) k (amend_outside s k v)
-    (λ l. absurd (n (ap (λ (r : Amended). (refusal_in r.answer).number) (amend_inside s k v l))))
+    (λ l. absurd (n (ap (λ (r : Amended). r.answer) (amend_inside s k v l))))

@@ -1,8 +1,8 @@
 -- What it says that a call refuses exactly where it is to (docs/RULES.md, Refusals): the two ways of a rule, conditions in the
 -- order of a call's tests, each with its number, and the number that is due, which is that of the first condition that holds.
 -- Assumes nothing.
-use Rattle.std.specs.Prelude.{◌≡◌, Bool, true, false, List, [], ◌∷◌, ℕ, eqb}
-use Rattle.frame.specs.Refusals.{refused, not_refused}
+use Rattle.std.specs.Prelude.{◌≡◌, Bool, true, false, List, [], ◌∷◌, ℕ, eqb, Ok, Result}
+use Rattle.frame.specs.Refusals.{refused, not_refused, refusal_in}
 use Rattle.frame.specs.declared.refusals.Refusal.{Refusal}
 
 -- the two ways of a rule
@@ -45,6 +45,15 @@ NoneHolds (c ∷ (d ∷ cs)) = c.fails × NoneHolds (d ∷ cs)
 abbrev pub NotOwn : List Condition → Refusal → Type 0
 NotOwn [] r = r ≡ not_refused → ⊥
 NotOwn (c ∷ cs) r = (r ≡ refused c.number → ⊥) × NotOwn cs r
+
+-- what a call answers that gives v where it refuses nothing: an answer that says no refusal is Ok
+abbrev pub Clear : {A : Type 0} → Result A Refusal → A → Type 0
+Clear x v = refusal_in x ≡ not_refused → x ≡ Ok v
+
+-- it accepts exactly where P is so: it is Ok there and gives v, and says no refusal there, and neither anywhere else
+pub record Accepts {A : Type 0} (x : Result A Refusal) (v : A) (P : Type 0) : Type 0 where
+  pub gives : Exactly (x ≡ Ok v) P
+  pub clear : Exactly (refusal_in x ≡ not_refused) P
 
 -- x is the refusal of a call that goes by these conditions
 pub record Refuses (cs : List Condition) (x : Refusal) : Type 0 where

@@ -1,5 +1,5 @@
 -- The call on a lent frame, by demand 3: where nothing is refused, it leaves the frame's header and its payload with the
--- whole list applied, encrypted and signed afresh; where anything is, the frame as it was.
+-- whole list applied, encrypted and signed afresh; where its answer is not Ok, the frame as it was.
 -- Assumes nothing.
 use native.Mathlib.Omega.{arith}
 use Rattle.std.specs.Prelude.{Result, Ok, Err}
@@ -54,7 +54,7 @@ opening_passed g (Ok s) z = refl
 opening_passed g (Err r) z = z
 
 -- what a refused call leaves
-left_as : (x : Result (Unit {0}) Refusal) (g f : List ℕ) → ((refusal_in x).number ≡ 0 → ⊥) → by_result (λ u. g) (λ r. f) x ≡ f
+left_as : (x : Result (Unit {0}) Refusal) (g f : List ℕ) → (x ≡ Ok tt → ⊥) → by_result (λ u. g) (λ r. f) x ≡ f
 left_as (Ok u) g f n = absurd (n refl)
 left_as (Err r) g f n = refl
 
@@ -80,7 +80,8 @@ module _ (f nwk app : List ℕ) (counter : ℕ) (es : List ℕ) where
             ∙ z,
       )
 
-  frame_passed : (refusal_in (amend_frame_of f nwk app counter es)).number ≡ 0 → amend_frame_of f nwk app counter es ≡ Ok tt
+  -- and then it is Ok
+  pub frame_passed : (refusal_in (amend_frame_of f nwk app counter es)).number ≡ 0 → amend_frame_of f nwk app counter es ≡ Ok tt
   unfolding amend_frame_of
   frame_passed z =
       let is = accepted_opens f nwk app counter (opens_accepted f nwk app counter (both z).0) in
@@ -100,7 +101,7 @@ module _ (f nwk app : List ℕ) (counter : ℕ) (es : List ℕ) where
       ∙ ap (λ (n : ℕ). take n s.frame) (sym stands.long)
       ∙ stands.frame
 
-  pub refused_frame : ((refusal_in (amend_frame_of f nwk app counter es)).number ≡ 0 → ⊥) → amended_frame f nwk app counter es ≡ f
+  pub refused_frame : (amend_frame_of f nwk app counter es ≡ Ok tt → ⊥) → amended_frame f nwk app counter es ≡ f
   unfolding amended_frame
   refused_frame n = left_as (amend_frame_of f nwk app counter es) (take (length f) a.state.frame) f n
 

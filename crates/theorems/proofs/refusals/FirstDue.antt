@@ -1,20 +1,21 @@
 -- A call whose answer goes by its conditions in their order gives each number exactly where it is due: `no_more` where no
 -- condition is left and `first` for one more ahead of the rest. So each call is one instance, a step for each of its tests.
 -- Assumes nothing.
+use Rattle.std.specs.Prelude.{Err, Ok, Result}
 use mathlib.Core.Path.{◌≡◌, refl, sym, ap, ◌∙◌, subst}
 use mathlib.Core.Bool.{Bool, true, false, not}
 use mathlib.Core.List.{List, [], ◌∷◌}
 use mathlib.Core.Logic.{◌⊎◌, inl, inr, ⊎_elim}
-use Prim.Native.Nat.{ℕ, ◌≤◌, ◌<◌}
+use Prim.Native.Nat.{ℕ, suc, ◌≤◌, ◌<◌}
 use native.Mathlib.Omega.{arith}
 use lib.Dec.{T, eqb, leb, ltb}
 use borrow.Author.Tests.{ltb-true, lt-ltb, leb-true, le-leb, eqb-true, eqb-false, eq-eqb, not-true, not-false}
 use Rattle.base.specs.Bytes.{pick}
 use Rattle.base.proofs.Cases.{by_bool}
 use Rattle.base.proofs.Tested.{both, both_left, both_right}
-use Rattle.frame.specs.Refusals.{refused, not_refused}
+use Rattle.frame.specs.Refusals.{refused, not_refused, refusal_in}
 use Rattle.frame.specs.declared.refusals.Refusal.{Refusal}
-use Rattle.theorems.specs.Exactly.{Exactly, Condition, ◌when◌, ◌unless◌, choice, Due, NoneHolds, NotOwn, Refuses}
+use Rattle.theorems.specs.Exactly.{Exactly, Condition, ◌when◌, ◌unless◌, choice, Due, NoneHolds, NotOwn, Clear, Accepts, Refuses}
 
 -- ---- tests, and what they tell
 
@@ -255,3 +256,15 @@ past = passed refused (λ r. r) refused_told
 
 pub refuses : {cs : List Condition} {x : Refusal} → Gives refused cs x → Refuses cs x
 refuses g = record { exactly = g.exactly; no_other = no_other refused (λ r. r) refused_told g }
+
+-- ---- what is accepted
+
+-- by a test that refuses
+pub clear_test : {A : Type 0} (b : Bool) (v : A) (n : ℕ) → Clear (pick b (Ok v) (Err (refused (suc n)))) v
+clear_test true v n e = refl
+clear_test false v n e = let none : ⊥ = omega (arith, ap (λ (r : Refusal). r.number) e) in absurd none
+
+-- what says no refusal exactly where P is so is Ok exactly there
+pub accepts : {A : Type 0} {x : Result A Refusal} {v : A} {P : Type 0} → Clear x v → Exactly (refusal_in x ≡ not_refused) P → Accepts x v P
+accepts c e =
+    record { gives = record { there = λ q. e.there (ap refusal_in q); back = λ p. c (e.back p) }; clear = e }

@@ -32,12 +32,12 @@ use Rattle.frame_opening.specs.FrameOpening.{join_passes, data_passes, join_requ
 use Rattle.frame_opening.specs.JoinAcceptOpening.{accept_opened}
 use Rattle.frame_opening.specs.SessionKeys.{derived_keys, session_keys_of}
 use Rattle.frame_opening.specs.CheckedOpening.{opened_tested, data_opened_checked, accept_tested, accept_opened_checked}
-use Rattle.theorems.specs.Exactly.{Exactly, Condition}
+use Rattle.theorems.specs.Exactly.{Exactly, Condition, Clear}
 use Rattle.theorems.specs.ByReading.{Needs, join_request, join_accept, data_frame, Is, ByReading, AfterReading}
 use Rattle.theorems.specs.OpeningConditions.{RightDataMic, RightJoinMic, Tests, KeyMissing, empty, zero, other, plain_conditions, checked_conditions, checked_accept_conditions, opening_of}
 use Rattle.theorems.proofs.refusals.KeyChoice.{by_empty, by_its_port}
 use Rattle.theorems.proofs.refusals.FirstDue.{apart, if_when, if_unless, if_not, with_none, Gives, no_more, passed, nothing_left, says_told, through}
-use Rattle.theorems.proofs.refusals.ReadFirst.{on, on_through, either_way, needed, handed_on, after_reading, refusal_after}
+use Rattle.theorems.proofs.refusals.ReadFirst.{on, on_through, either_way, needed, handed_on, clear_on, after_reading, refusal_after}
 
 -- ---- what the tests tell
 
@@ -285,12 +285,24 @@ pub accept_refusal : (f : List ℕ) → refusal_in (join_accept_fields_of f) ≡
 accept_refusal f =
     on_through refusal_in join_accept f (Ok (accept_fields_of f)) Err (λ r. r) (λ r n. refl)
 
+-- what is given where it says none
+pub session_clear : (key dev_nonce_of f : List ℕ) → Clear (session_keys_of key dev_nonce_of f) (derived_keys key dev_nonce_of f)
+unfolding session_keys_of
+session_clear key dev_nonce_of f = clear_on join_accept f (derived_keys key dev_nonce_of f)
+
 -- and what it goes by
-pub session_keys : (key dev_nonce_of f : List ℕ) → AfterReading (λ r. r) refused join_accept f [] (refusal_in (session_keys_of key dev_nonce_of f))
-session_keys key dev_nonce_of f = rw (session_refusal key dev_nonce_of f) (values_after join_accept f)
+pub session_keys : (key dev_nonce_of f : List ℕ)
+    → AfterReading (λ r. r) refused join_accept f [] (refusal_in (session_keys_of key dev_nonce_of f))
+    × Clear (session_keys_of key dev_nonce_of f) (derived_keys key dev_nonce_of f)
+session_keys key dev_nonce_of f =
+    (rw (session_refusal key dev_nonce_of f) (values_after join_accept f), session_clear key dev_nonce_of f)
 
-pub request_fields : (f : List ℕ) → AfterReading (λ r. r) refused join_request f [] (refusal_in (join_request_fields_of f))
-request_fields f = rw (request_refusal f) (values_after join_request f)
+pub request_fields : (f : List ℕ)
+    → AfterReading (λ r. r) refused join_request f [] (refusal_in (join_request_fields_of f))
+    × Clear (join_request_fields_of f) (request_fields_of f)
+request_fields f = (rw (request_refusal f) (values_after join_request f), clear_on join_request f (request_fields_of f))
 
-pub accept_fields : (f : List ℕ) → AfterReading (λ r. r) refused join_accept f [] (refusal_in (join_accept_fields_of f))
-accept_fields f = rw (accept_refusal f) (values_after join_accept f)
+pub accept_fields : (f : List ℕ)
+    → AfterReading (λ r. r) refused join_accept f [] (refusal_in (join_accept_fields_of f))
+    × Clear (join_accept_fields_of f) (accept_fields_of f)
+accept_fields f = (rw (accept_refusal f) (values_after join_accept f), clear_on join_accept f (accept_fields_of f))

@@ -149,12 +149,12 @@ module _ (f : List ℕ) where
   reads_placed : (c : Reads f) → Placed Reader (reads_refusal f c)
   reads_placed read = read_placed
   reads_placed view = view_placed
-  reads_placed request_fields = refusal-placed _ _ tt _ (opens.request_fields f)
-  reads_placed accept_fields = refusal-placed _ _ tt _ (opens.accept_fields f)
-  reads_placed (session_keys key dev_nonce_of) = refusal-placed _ _ tt _ (opens.session_keys key dev_nonce_of f)
-  reads_placed (request_stored room) = refusal-placed _ _ tt _ (bridge.request_stored f room)
-  reads_placed (accept_stored room) = refusal-placed _ _ tt _ (bridge.accept_stored f room)
-  reads_placed (keys_stored key dev_nonce_of room) = refusal-placed _ _ tt _ (bridge.keys_stored key dev_nonce_of f room)
+  reads_placed request_fields = refusal-placed _ _ tt _ (opens.request_fields f).0
+  reads_placed accept_fields = refusal-placed _ _ tt _ (opens.accept_fields f).0
+  reads_placed (session_keys key dev_nonce_of) = refusal-placed _ _ tt _ (opens.session_keys key dev_nonce_of f).0
+  reads_placed (request_stored room) = refusal-placed _ _ tt _ (bridge.request_stored f room).0
+  reads_placed (accept_stored room) = refusal-placed _ _ tt _ (bridge.accept_stored f room).0
+  reads_placed (keys_stored key dev_nonce_of room) = refusal-placed _ _ tt _ (bridge.keys_stored key dev_nonce_of f room).0
   reads_placed (request_mic key) = test_placed _ _ (opens.request_test key f)
   reads_placed (accept_mic key) = test_placed _ _ (opens.accept_test key f)
   reads_placed (data_mic key counter) = test_placed _ _ (opens.data_test key counter f)
@@ -162,8 +162,8 @@ module _ (f : List ℕ) where
   reads_placed (decrypt_data_checked nwk app counter) = opening_placed _ _ tt _ (opens.checked_opening nwk app counter f)
   reads_placed (decrypt_accept key) = opening_placed _ _ tt _ (opens.accept_opening key f)
   reads_placed (decrypt_accept_checked key) = opening_placed _ _ tt _ (opens.checked_accept key f)
-  reads_placed (open_frame nwk app counter) = refusal-placed _ _ tt _ (amends.opening f nwk app counter)
-  reads_placed (amend_frame nwk app counter list) = refusal-placed _ _ tt _ (amends.amending_frame f nwk app counter list)
+  reads_placed (open_frame nwk app counter) = refusal-placed _ _ tt _ (amends.opening f nwk app counter).0
+  reads_placed (amend_frame nwk app counter list) = refusal-placed _ _ tt _ (amends.amending_frame f nwk app counter list).0
   reads_placed command_lists = lists_placed
 
 -- ---- of a call that reads none
@@ -186,9 +186,9 @@ unfolding described_of
 described_at_0 text out = by_bool (ltb (length out) text_room) (λ e. simp e refl) (λ e. simp e refl)
 
 others_at_0 : (c : Others) → (others_refusal c).place ≡ 0
-others_at_0 (amend s offset value) = refuses_at_0 (amends.amending s offset value)
-others_at_0 (amend_list s list) = refuses_at_0 (amends.amending_list s list)
-others_at_0 (take_out s room) = refuses_at_0 (amends.taking s room)
+others_at_0 (amend s offset value) = refuses_at_0 (amends.amending s offset value).0
+others_at_0 (amend_list s list) = refuses_at_0 (amends.amending_list s list).0
+others_at_0 (take_out s room) = refuses_at_0 (amends.taking s room).0
 others_at_0 (build_data nwk app d commands body room) =
     built_at_0 (data_refusal_of d commands body room) (length (data_frame_of nwk app d commands body))
 others_at_0 (build_kind kind nwk app d commands body room) =

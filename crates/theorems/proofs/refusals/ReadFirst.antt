@@ -13,13 +13,13 @@ use Rattle.frame.specs.Conditions.{IsJoinAccept, Passes}
 use Rattle.frame.specs.Faults.{Fault, too_long, too_short, version, type, join_length, header, number_of_fault}
 use Rattle.frame.specs.Reading.{read_of, data_of}
 use Rattle.frame.specs.ReadingNumbers.{number_of, other_refusal_of, on_request, on_accept, on_data}
-use Rattle.frame.specs.Refusals.{refused}
+use Rattle.frame.specs.Refusals.{refused, not_refused, refusal_in}
 use Rattle.frame.specs.declared.refusals.Refusal.{Refusal}
 use Rattle.frame.specs.Reading.{Reading}
 use Rattle.frame.specs.declared.parser.Frame.TheVariants.{JoinRequest, JoinAccept, Data}
 use Rattle.frame.proofs.Others.{not_request, not_accept, not_data}
 use Rattle.frame.proofs.ReadingLaws.{Says, answers, refusal_read, reads_request, reads_accept, reads_data}
-use Rattle.theorems.specs.Exactly.{Condition}
+use Rattle.theorems.specs.Exactly.{Condition, Clear}
 use Rattle.theorems.specs.ByReading.{Needs, join_request, join_accept, data_frame, Is, ByReading, keeps, other, of_reading, AfterReading}
 use Rattle.theorems.proofs.refusals.FirstDue as due
 use Rattle.theorems.proofs.refusals.ReadingRefusals.{passes, not_both}
@@ -130,6 +130,15 @@ on_through h k f x e e' found =
     ap h (handed_on x e f k s.0 s.1)
     ∙ found s.0 (λ z. rw z at (reading_number f k s.0 s.1))
     ∙ sym (handed_on (h x) e' f k s.0 s.1))
+    (either_way f k)
+
+-- a call that does no more gives x where it says no refusal
+pub clear_on : {A : Type 0} (k : Needs) (f : List ℕ) (x : A) → Clear (on k (Ok x) Err (read_of f)) x
+clear_on k f x e =
+    ⊎_elim (λ i. needed (Ok x) Err f k i)
+    (λ s.
+    let is : s.0 ≡ not_refused = sym (ap refusal_in (handed_on (Ok x) Err f k s.0 s.1)) ∙ e in
+    absurd (subst (λ (r : Refusal). T (of_reading r.number)) is (reading_number f k s.0 s.1)))
     (either_way f k)
 
 -- ---- the law
