@@ -5,7 +5,7 @@
 use Rattle.frame.specs.Refusals.{refusal_in}
 use Rattle.std.specs.Prelude.{◌≡◌, Bool, List, ℕ, ℤ, length, Err, Option}
 use Rattle.frame.specs.Reading.{read_of}
-use Rattle.frame.specs.ReadingNumbers.{number_of, place_of, values_of}
+use Rattle.frame.specs.ReadingNumbers.{number_of, place_of, values_of, request_in, accept_in, data_in}
 use Rattle.frame.specs.Refusals.{refusal}
 use Rattle.frame.specs.JoinFields.{join_request_fields_of, join_accept_fields_of}
 use Rattle.frame.specs.declared.refusals.Refusal.{Refusal}
@@ -40,6 +40,10 @@ pub data Reads (f : List ℕ) : Type 0 where
   -- reading, and the view, which shows its number and place
   read : Reads f
   view : Reads f
+  -- reading a frame of one type
+  as_request : Reads f
+  as_accept : Reads f
+  as_data : Reads f
   -- the fields of join messages, and session keys; from C into so many bytes
   request_fields : Reads f
   accept_fields : Reads f
@@ -66,6 +70,9 @@ pub data Reads (f : List ℕ) : Type 0 where
 abbrev pub reads_refusal : (f : List ℕ) → Reads f → Refusal
 reads_refusal f read = refusal (number_of (read_of f)) (place_of (read_of f))
 reads_refusal f view = refusal (values_of (read_of f)).number (values_of (read_of f)).place
+reads_refusal f as_request = refusal_in (request_in (read_of f))
+reads_refusal f as_accept = refusal_in (accept_in (read_of f))
+reads_refusal f as_data = refusal_in (data_in (read_of f))
 reads_refusal f request_fields = refusal_in (join_request_fields_of f)
 reads_refusal f accept_fields = refusal_in (join_accept_fields_of f)
 reads_refusal f (session_keys key dev_nonce_of) = refusal_in (session_keys_of key dev_nonce_of f)

@@ -1,4 +1,4 @@
--- MIC tests, openings and session keys refuse exactly where they are to (docs/RULES.md, Refusals): they hand on what reading
+-- MIC tests, openings, session keys and the readers of one type refuse exactly where they are to (docs/RULES.md, Refusals): they hand on what reading
 -- gives, and 5 and 6 are given of a frame of the right type alone, each exactly where it is due.
 -- Assumes nothing.
 use Rattle.std.specs.Prelude.{None}
@@ -18,11 +18,14 @@ use Rattle.base.specs.Bytes.{pick}
 use Rattle.base.proofs.Cases.{by_bool, by_order}
 use Rattle.frame.specs.Conditions.{IsJoinAccept, IsData}
 use Rattle.frame.specs.JoinFields.{request_fields_of, join_request_fields_of, accept_fields_of, join_accept_fields_of}
+use Rattle.frame.specs.ReadingNumbers.{request_in, accept_in, data_in}
 use Rattle.frame.specs.Layout.{fport, payload, mic_of}
-use Rattle.frame.specs.Reading.{read_of, port_of}
+use Rattle.frame.specs.Reading.{Reading, read_of, port_of, data_of}
 use Rattle.frame.specs.Refusals.{refused, not_refused}
 use Rattle.frame.specs.declared.refusals.Refusal.{Refusal}
+use Rattle.frame.specs.declared.parser.Frame.TheVariants.{JoinRequest, JoinAccept, Data}
 use Rattle.frame.proofs.LayoutLaws.{length-payload}
+use Rattle.frame.proofs.ReadingLaws.{Says, answers}
 use Rattle.frame.proofs.ReadingSteps.{port_there}
 use Rattle.frame_security.specs.JoinAcceptCipher.{accept_decrypted}
 use Rattle.frame_security.specs.Mic.{same_bytes}
@@ -306,3 +309,45 @@ pub accept_fields : (f : List ℕ)
     → AfterReading (λ r. r) refused join_accept f [] (refusal_in (join_accept_fields_of f))
     × Clear (join_accept_fields_of f) (accept_fields_of f)
 accept_fields f = (rw (accept_refusal f) (values_after join_accept f), clear_on join_accept f (accept_fields_of f))
+
+-- ---- reading a frame of one type: reading alone
+
+-- a call that gives x of a frame of the right type and does no more
+reading_after : (k : Needs) (f : List ℕ) {A : Type 0} (x : A) {answer : Result A Refusal} → answer ≡ on k (Ok x) Err (read_of f)
+    → AfterReading (λ r. r) refused k f [] (refusal_in answer) × Clear answer x
+reading_after k f {A} x e =
+    subst (λ (a : Result A Refusal). AfterReading (λ r. r) refused k f [] (refusal_in a) × Clear a x) (sym e)
+    (rw (on_through refusal_in k f (Ok x) Err (λ r. r) (λ r n. refl)) (values_after k f), clear_on k f x)
+
+request_given : (r : Reading) → request_in r ≡ on join_request (Ok tt) Err r
+request_given (Ok JoinRequest) = refl
+request_given (Ok (JoinAccept n)) = refl
+request_given (Ok (Data d)) = refl
+request_given (Err q) = refl
+
+accept_given : (f : List ℕ) (r : Reading) → Says f r → accept_in r ≡ on join_accept (Ok (length f)) Err r
+accept_given f (Ok JoinRequest) s = refl
+accept_given f (Ok (JoinAccept n)) s = ap Ok (sym s.long)
+accept_given f (Ok (Data d)) s = refl
+accept_given f (Err q) s = refl
+
+data_given : (f : List ℕ) (r : Reading) → Says f r → data_in r ≡ on data_frame (Ok (data_of f)) Err r
+data_given f (Ok JoinRequest) s = refl
+data_given f (Ok (JoinAccept n)) s = refl
+data_given f (Ok (Data d)) s = ap Ok s.1
+data_given f (Err q) s = refl
+
+-- a join-request
+pub as_request : (f : List ℕ)
+    → AfterReading (λ r. r) refused join_request f [] (refusal_in (request_in (read_of f))) × Clear (request_in (read_of f)) tt
+as_request f = reading_after join_request f tt (request_given (read_of f))
+
+-- a join-accept, and its length
+pub as_accept : (f : List ℕ)
+    → AfterReading (λ r. r) refused join_accept f [] (refusal_in (accept_in (read_of f))) × Clear (accept_in (read_of f)) (length f)
+as_accept f = reading_after join_accept f (length f) (accept_given f (read_of f) (answers f))
+
+-- a data frame, and its fields
+pub as_data : (f : List ℕ)
+    → AfterReading (λ r. r) refused data_frame f [] (refusal_in (data_in (read_of f))) × Clear (data_in (read_of f)) (data_of f)
+as_data f = reading_after data_frame f (data_of f) (data_given f (read_of f) (answers f))

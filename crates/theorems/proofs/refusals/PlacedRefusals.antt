@@ -32,7 +32,7 @@ use Rattle.theorems.specs.ByReading.{Needs, data_frame, ByReading, keeps, other,
 use Rattle.theorems.specs.CommandConditions.{Writes, lists_answer}
 use Rattle.theorems.specs.NumberConditions.{numbers_written}
 use Rattle.theorems.specs.OpeningConditions.{Tests, opening_of}
-use Rattle.theorems.specs.Places.{Reads, read, view, request_fields, accept_fields, session_keys, request_stored, accept_stored, keys_stored, request_mic, accept_mic, data_mic, decrypt_data, decrypt_data_checked, decrypt_accept, decrypt_accept_checked, open_frame, amend_frame, command_lists, reads_refusal, Others, amend, amend_list, take_out, build_data, build_kind, build_request, build_accept, write_command, write_fields, write_numbers, describe, describe_input, others_refusal, Call, reads, others, refusal_of, ReaderRefuses, Placed}
+use Rattle.theorems.specs.Places.{Reads, read, view, as_request, as_accept, as_data, request_fields, accept_fields, session_keys, request_stored, accept_stored, keys_stored, request_mic, accept_mic, data_mic, decrypt_data, decrypt_data_checked, decrypt_accept, decrypt_accept_checked, open_frame, amend_frame, command_lists, reads_refusal, Others, amend, amend_list, take_out, build_data, build_kind, build_request, build_accept, write_command, write_fields, write_numbers, describe, describe_input, others_refusal, Call, reads, others, refusal_of, ReaderRefuses, Placed}
 use Rattle.theorems.proofs.refusals.AmendingRefusals as amends
 use Rattle.theorems.proofs.refusals.BridgeRefusals as bridge
 use Rattle.theorems.proofs.refusals.CommandRefusals as commands
@@ -149,6 +149,9 @@ module _ (f : List ℕ) where
   reads_placed : (c : Reads f) → Placed Reader (reads_refusal f c)
   reads_placed read = read_placed
   reads_placed view = view_placed
+  reads_placed as_request = refusal-placed _ _ tt _ (opens.as_request f).0
+  reads_placed as_accept = refusal-placed _ _ tt _ (opens.as_accept f).0
+  reads_placed as_data = refusal-placed _ _ tt _ (opens.as_data f).0
   reads_placed request_fields = refusal-placed _ _ tt _ (opens.request_fields f).0
   reads_placed accept_fields = refusal-placed _ _ tt _ (opens.accept_fields f).0
   reads_placed (session_keys key dev_nonce_of) = refusal-placed _ _ tt _ (opens.session_keys key dev_nonce_of f).0
