@@ -102,7 +102,7 @@ pub data OutsideMargin (margin : ℤ) : Type 0 where
   under : lt_z margin (negsuc 31) ≡ true → OutsideMargin margin
   over : lt_z (pos 31) margin ≡ true → OutsideMargin margin
 
--- ---- the lists of commands of the frame f: what is Ok by a number, 0 where f is a data frame
+-- ---- the lists of commands of the frame f: what is answered by a number, 0 where f is a data frame
 
 abbrev pub lists_answer : List ℕ → ℕ → Result CommandLists Refusal
 lists_answer f n = pick (eqb n 0) (Ok (lists_of (data_of f))) (Err (refused n))

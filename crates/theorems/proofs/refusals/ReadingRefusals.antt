@@ -105,7 +105,7 @@ module _ (f : List ℕ) where
   accepts (Ok (Data d)) s h = refl
   accepts (Err r) s h = absurd (not_both r s h)
 
-  -- ---- the theorem: each fault is Ok, by its number and at its place, exactly where it is found
+  -- ---- the theorem: each fault is answered, by its number and at its place, exactly where it is found
 
   pub refuses : (x : Fault) → Exactly (read_of f ≡ refuse x f) (Found x f)
   refuses x = record { there = λ e. only x (refusal_read f e); back = reads_fault f x }
