@@ -36,15 +36,17 @@ pub fn read_full<R: Read>(reader: &mut R, room: &mut [u8]) -> io::Result<usize>
 }
 
 // Reads the input to its end. Its start stands in `room`, as much of it as there is room for. Every error is the reader's: part of
-// the input is read then, and `room` holds some of it. (With a slice of `room` in the result no clause could name `room.new`.)
+// the input is read then, and `room` holds some of it. Of an input for which there is no room at all nothing is read, and it counts
+// as empty. (With a slice of `room` in the result no clause could name `room.new`.)
 pub fn read_input<R: Read>(reader: &mut R, room: &mut [u8]) -> io::Result<Input>
     ensures ok { IfOk result (λ input. IsPrefixLen input.start room.new) }
     ensures held { IfOk result (λ input. input.start ≡ min input.count (length room.new)) }
+    ensures empty { length room.old ≡ 0 → IfOk result (λ input. input.count ≡ 0) }
     ensures room_kept { length room.new ≡ length room.old }
 {
     let start = read_full(reader, room)?;
     let mut count = start;
-    if start == room.len() {
+    if 0 < start && start == room.len() {
         let behind = io::copy(reader, &mut io::sink())?;
         count = count.saturating_add(behind as usize);
     }
