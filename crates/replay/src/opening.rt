@@ -21,7 +21,7 @@ fn put_test<W: Write>(line: &mut W, test: Result<bool, Refusal>) -> io::Result<(
 }
 
 // The MIC test of a join message.
-pub fn test_join<W: Write, T: Fn(&[u8], [u8; 16]) -> Result<bool, Refusal>>(
+pub(crate) fn test_join<W: Write, T: Fn(&[u8], [u8; 16]) -> Result<bool, Refusal>>(
     line: &mut W,
     record: &mut Record,
     test: T,
@@ -72,7 +72,7 @@ pub fn decrypt_data_checked<W: Write>(line: &mut W, record: &mut Record) -> io::
 }
 
 // The decryption of a join-accept.
-pub fn decrypt_accept<W: Write, D: Fn(&mut [u8], [u8; 16]) -> Result<(), Refusal>>(
+pub(crate) fn decrypt_accept<W: Write, D: Fn(&mut [u8], [u8; 16]) -> Result<(), Refusal>>(
     line: &mut W,
     record: &mut Record,
     decrypt: D,
