@@ -63,29 +63,34 @@ pub fn record_length(bytes: [u8; 2], room: usize) -> usize
     usize::from(u16::from_le_bytes(bytes)).min(room)
 }
 
-// Reads records and hands each to `answer`, behind its head, until the input ends or an answer fails, and says how many were
-// answered. Ahead of a record stand its length, in two bytes, and a head of as many bytes as `head` has. Each record is read into
-// `room`; one that is longer counts as so many bytes, and the next one begins after them. The last record may be cut short, but not
-// its length or its head: then there is none. Every error is the reader's.
-pub fn each_record<R: Read, F: FnMut(&[u8], &[u8]) -> io::Result<()>>(
+// What is done with the records that are read.
+pub trait Answers {
+    // What is done with one record and the head ahead of it. Where it fails, no further record is read.
+    fn answer(&mut self, head: &[u8], record: &[u8]) -> io::Result<()>;
+}
+
+// Reads records and hands each to `answers`, behind its head, until the input ends or an answer fails, and says how many were
+// answered. Ahead of a record stand as many bytes as `prefix` has: two with its length, and the head behind them. Each record is
+// read into `room`; one that is longer counts as so many bytes, and the next one begins after them. The last record may be cut
+// short, but not what stands ahead of it: then there is none, nor is there any where `prefix` has no room for a length. Every error
+// is the reader's.
+pub fn each_record<R: Read, A: Answers>(
     reader: &mut R,
-    head: &mut [u8],
+    prefix: &mut [u8],
     room: &mut [u8],
-    mut answer: F,
+    answers: &mut A,
 ) -> io::Result<u64>
-    requires { F.IsAlwaysCallable answer }
-    ensures head_kept { length head.new ≡ length head.old }
+    ensures prefix_kept { length prefix.new ≡ length prefix.old }
     ensures room_kept { length room.new ≡ length room.old }
 {
     // A loop has to end, and nothing says that an input does: so the records are counted, up to a number that no run reaches.
     for answered in 0..u64::MAX {
-        let mut length = [0u8; 2];
-        if read_full(reader, &mut length)? < 2 || read_full(reader, head)? < head.len() {
+        if prefix.len() < 2 || read_full(reader, prefix)? < prefix.len() {
             return Ok(answered);
         }
-        let limit = record_length(length, room.len());
+        let limit = record_length([prefix[0], prefix[1]], room.len());
         let n = read_full(reader, &mut room[..limit])?;
-        if answer(head, &room[..n]).is_err() {
+        if answers.answer(&prefix[2..], &room[..n]).is_err() {
             return Ok(answered);
         }
     }

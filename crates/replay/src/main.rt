@@ -7,6 +7,7 @@ use crate::arguments::{ROOM, Record};
 use frame_opening::default_crypto::decrypt_join_accept_checked;
 use frame_opening::join_accept::decrypt_join_accept;
 use frame_opening::mic_tests;
+use input::Answers;
 use std::io;
 use std::io::{BufWriter, Write};
 
@@ -50,6 +51,18 @@ fn answer_line<W: Write>(line: &mut W, record: &[u8]) -> io::Result<()> {
     line.write_all(b"\n")
 }
 
+// Writes the answer to each record that is read to `out`.
+#[derive(Drop)]
+struct Lines<'a, W> {
+    out: &'a mut W,
+}
+
+impl<W: Write> Answers for Lines<'_, W> {
+    fn answer(&mut self, _head: &[u8], record: &[u8]) -> io::Result<()> {
+        answer_line(self.out, record)
+    }
+}
+
 fn put_count<W: Write>(out: &mut W, cases: u64) -> io::Result<()> {
     writeln!(out, "{cases} cases")?;
     out.flush()
@@ -57,10 +70,10 @@ fn put_count<W: Write>(out: &mut W, cases: u64) -> io::Result<()> {
 
 fn main(rt: HostRuntime) -> io::Result<()> {
     let mut out = BufWriter::new(rt.alloc(), rt.stdout())?;
+    let mut prefix = [0u8; 2];
     let mut room = [0u8; ROOM];
-    let cases = input::each_record(&mut rt.reader(), &mut [], &mut room, |_, record| {
-        answer_line(&mut out, record)
-    })?;
+    let mut lines = Lines { out: &mut out };
+    let cases = input::each_record(&mut rt.reader(), &mut prefix, &mut room, &mut lines)?;
     if put_count(&mut out, cases).is_err() {
         // Where this cannot be written either, there is nothing left to say it by.
         let _ = eprintln!(rt; "replay: the output could not be written");
